@@ -1,6 +1,5 @@
--- What bytes encode: varints, fields and changes, and the scan for canonical ones.
+-- What bytes encode: varints, fields and changes.
 pub mod VarintLemmas
+pub mod EightBytes
 pub mod FieldReads
 pub mod SaidLaws
-pub mod CanonicalLaws
-pub mod CanonicalOnly

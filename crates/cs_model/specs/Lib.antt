@@ -16,6 +16,5 @@ pub mod Seen
 pub mod Packed
 pub mod Row
 pub mod PackedChanges
-pub mod Canonical
 pub mod TextFront
 pub mod PackedOne

@@ -5,7 +5,6 @@ ghost use Rattle.std.specs.List.{AllByRecursion};
 ghost use Rattle.cs_model.specs.declared.change.Change.{Change};
 ghost use Rattle.cs_model.specs.Packed.{Fits};
 ghost use Rattle.cs_model.specs.PackedChanges.{AreCanonical, change_bytes, unpacked_changes};
-ghost use Rattle.cs_model.specs.PackedOne.{IsPacked};
 ghost use Rattle.cs_model.specs.Seen.{change_seen};
 
 use crate::change::Op;
@@ -34,15 +33,6 @@ impl<'a> Model for PackedChange<'a> {
 }
 
 impl<'a> PackedChange<'a> {
-    /// The change with these canonical bytes, whose new record begins at `middle`. cs_parse uses it.
-    #[inline(always)]
-    pub fn of(bytes: &'a [u8], middle: usize) -> PackedChange<'a>
-        requires { (change : Change) × IsPacked change middle bytes.now }
-        ensures { (change : Change) → IsPacked change middle bytes.now → result ≡ change }
-    {
-        PackedChange { bytes, middle }
-    }
-
     /// The operation.
     #[inline(always)]
     pub fn op(&self) -> Op

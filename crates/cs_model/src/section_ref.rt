@@ -170,6 +170,23 @@ impl<'a> SectionRefs<'a> {
     {
         SectionRefs { ats, bytes }
     }
+
+    /// Borrows the same sections once more.
+    pub fn again(&self) -> SectionRefs<'a>
+        ensures { result ≡ self.now }
+    {
+        SectionRefs {
+            ats: self.ats,
+            bytes: self.bytes,
+        }
+    }
+
+    /// The number of remaining sections.
+    pub fn len(&self) -> usize
+        ensures { result ≡ length self.now }
+    {
+        self.ats.len()
+    }
 }
 
 impl<'a> Iterator for SectionRefs<'a> {

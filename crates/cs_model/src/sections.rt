@@ -60,14 +60,14 @@ impl Sections {
     pub fn len(&self) -> usize
         ensures { result ≡ length self.now }
     {
-        self.ats.len()
+        self.iter().len()
     }
 
     /// Returns `true` if there are no sections.
     pub fn is_empty(&self) -> bool
         ensures { result ≡ (length self.now == 0) }
     {
-        self.ats.is_empty()
+        self.len() == 0
     }
 
     /// Returns a cursor over the sections, in order.
@@ -153,38 +153,27 @@ impl Sections {
         Ok(())
     }
 
-    /// Adds the changes that a text encodes to the last section, in canonical form. An `Err`
-    /// changes nothing.
-    pub fn push_text(&mut self, columns: usize, text: &[u8]) -> Result<(), AllocError>
+    /// Adds the `count` changes that a text encodes to the last section, in canonical form: in one
+    /// copy if they are `canonical` there. An `Err` changes nothing.
+    pub fn push_text(
+        &mut self,
+        columns: usize,
+        text: &[u8],
+        count: usize,
+        canonical: bool,
+    ) -> Result<(), AllocError>
         requires last { LastHasColumns self.old columns }
         requires fit { AllByRecursion (Fit columns) (unpacked_changes columns text.now) }
+        requires count { count ≡ length (unpacked_changes columns text.now) }
+        requires canonical { IsTrue canonical → AreCanonical columns text.now }
         ensures ok { OnOk result (self.new
             ≡ with_changes self.old (unpacked_changes columns text.now)) }
         ensures err { OnErr result (self.new ≡ self.old) }
     {
         let start = self.text.len();
-        let count = text_push(&mut self.text, columns, text)?;
+        spelled_push(&mut self.text, columns, text, canonical)?;
         let size = self.text.len() - start;
         grow_last(&mut self.ats, size, count);
-        Ok(())
-    }
-
-    /// The same for `count` changes in canonical form, in one copy.
-    pub fn push_canonical(
-        &mut self,
-        columns: usize,
-        text: &[u8],
-        count: usize,
-    ) -> Result<(), AllocError>
-        requires last { LastHasColumns self.old columns }
-        requires canonical { AreCanonical columns text.now }
-        requires count { count ≡ length (unpacked_changes columns text.now) }
-        ensures ok { OnOk result (self.new
-            ≡ with_changes self.old (unpacked_changes columns text.now)) }
-        ensures err { OnErr result (self.new ≡ self.old) }
-    {
-        self.text.extend_from_slice(text)?;
-        grow_last(&mut self.ats, text.len(), count);
         Ok(())
     }
 
@@ -207,8 +196,8 @@ impl Sections {
         Ok(())
     }
 
-    /// Adds the `count` changes that a text encodes to the last section, as `push_text` does or, if
-    /// they are canonical, as `push_canonical`, and then other sections. An `Err` changes nothing.
+    /// Adds the `count` changes that a text encodes to the last section, as `push_text` does, and then
+    /// other sections. An `Err` changes nothing.
     pub fn join(
         &mut self,
         columns: usize,
@@ -301,8 +290,7 @@ fn spelled_push(
     if canonical {
         return out.extend_from_slice(text);
     }
-    text_push(out, columns, text)?;
-    Ok(())
+    text_push(out, columns, text)
 }
 
 // the key flags of the section at the end of a text

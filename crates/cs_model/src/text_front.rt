@@ -55,7 +55,7 @@ impl<'a> TextFront<'a> {
     pub fn len(&self) -> usize
         ensures { result ≡ length self.now.0 }
     {
-        self.ats.len()
+        self.iter().len()
     }
 
     /// Returns an iterator over the sections, in order.

@@ -14,7 +14,7 @@ use Rattle.cs_model.specs.Packed.{Fits, integer_by, typed_in}
 use Rattle.cs_model.specs.Text.{SpellsBytes, SpellsField}
 use Rattle.cs_model.specs.Varint.{IsVarint}
 use Rattle.cs_model.proofs.packing.PackedLaws.{text_back, blob_back, typed_back}
-use Rattle.cs_model.proofs.spelling.CanonicalLaws.{eight_bytes, number_back}
+use Rattle.cs_model.proofs.spelling.EightBytes.{eight_bytes, number_back}
 
 -- ---- a length, and so many bytes
 

@@ -89,7 +89,3 @@ pub changes_end : (n : ℕ) (rest made whole : List ℕ) → unpacked_changes n 
     ++ changes_bytes (unpacked_changes n rest) ≡ whole → made ≡ whole
 changes_end n rest made whole none so_far = sym (append-nil made)
     ∙ (ap (λ (cs : List Change). made ++ changes_bytes cs) (sym none) ∙ so_far)
-
-pub count_end : (n count : ℕ) (rest : List ℕ) (total : ℕ) → unpacked_changes n rest ≡ [] → count
-    + length (unpacked_changes n rest) ≡ total → count ≡ total
-count_end n count rest total none so_far = omega (arith, ap length none)

@@ -3,11 +3,12 @@ use Rattle.std.proofs.Common.{◌≡◌, ℕ, zero, suc, ◌+◌, ◌-◌, ◌*�
 use Rattle.std.proofs.Common.{false, cond, leb, Option, Some, None, IfSome, MatchOption, Bor, nat_eq, List, [], ◌∷◌}
 use Rattle.std.proofs.Common.{◌++◌, length, take, drop, get_or, refl, sym, ap, subst, ◌∙◌, arith}
 use Rattle.std.proofs.Math.Nat.{pow-le-pow_right}
-use Rattle.std.proofs.Math.Seq.{take-length}
+use Rattle.std.proofs.Math.Seq.{drop-append_seam, take-append_seam, take-length}
 use Rattle.std.proofs.lemmas.Nat.{div_below, mul-le}
 use Rattle.std.proofs.lemmas.Grind.{pow_more}
 use Rattle.std.proofs.lemmas.List.{append_assoc, drop_more, length-append, length-take-le, take-append-drop}
-use Rattle.std.specs.Cmp.Lexicographic.{pointwise, same_text}
+use Rattle.std.specs.Cmp.Lexicographic.{nat_list_eq_equiv, pointwise, same_text}
+use Rattle.std.proofs.lemmas.Bool.{false≢true}
 use Rattle.std.proofs.lemmas.Bool.Decides.{nat_tests}
 use Rattle.std.proofs.str.Laws.{order}
 use Rattle.cs_model.specs.Varint.{EndsVarint, IsVarint, groups, short_groups, varint}
@@ -350,3 +351,17 @@ stripped (Some rest) bytes front h =
     sym (take-append-drop (length front) bytes)
     ∙ (ap (λ (w : List ℕ). w ++ drop (length front) bytes) (same_text _ _ (sym h.0))
     ∙ ap (λ (w : List ℕ). front ++ w) (sym h.1))
+
+-- ---- a text before others
+
+pub only_strip : (out : Option (Bor (List ℕ))) (bytes front rest : List ℕ)
+    → MatchOption out (pointwise nat_eq (take (length front) bytes) front ≡ false)
+    (λ x. (pointwise nat_eq (take (length front) bytes) front ≡ true) × (x.now ≡ drop (length front) bytes)
+    × (length x.now + length front ≡ length bytes))
+    → bytes ≡ front ++ rest → MatchOption out ⊥ (λ x. x.now ≡ rest)
+only_strip None bytes front rest h whole =
+    let same : take (length front) bytes ≡ front =
+    ap (λ (w : List ℕ). take (length front) w) whole ∙ take-append_seam front rest in
+    absurd (false≢true (sym h ∙ (ap (λ (w : List ℕ). pointwise nat_eq w front) same ∙ nat_list_eq_equiv.refl front)))
+only_strip (Some x) bytes front rest h whole =
+    h.1 ∙ (ap (λ (w : List ℕ). drop (length front) w) whole ∙ drop-append_seam front rest)

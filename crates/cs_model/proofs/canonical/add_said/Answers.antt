@@ -1,7 +1,7 @@
 use Rattle.std.proofs.Common.{◌≡◌, ℕ, length, List, ◌∷◌, ◌++◌, not, eqb, ap, ◌∙◌, arith}
 use Rattle.cs_model.specs.PackedChanges.{changes_bytes, records_by, unpacked_changes}
 use Rattle.cs_model.proofs.packing.PackedChangeLaws.{changes_none, changes_short, changes_first, records_no_longer}
-use Rattle.cs_model.proofs.spelling.SaidLaws.{still_front, changes_go, changes_end, count_end}
+use Rattle.cs_model.proofs.spelling.SaidLaws.{still_front, changes_go, changes_end}
 use Rattle.cs_model.proofs.canonical.add_said.Goals as goal
 
 pub loop-preserved : goal.loop-preserved
@@ -16,7 +16,6 @@ loop-preserved c =
     c.in-Some-split_first.fields.now).0) c.op_of.ensures)
     (rw c.op_of.ensures at c.in_ok-rest.ensures.rest) in
     record {
-      turns = omega arith;
       enough = omega (
         arith,
         ap length c.in-Some.ensures.cases.0,
@@ -27,7 +26,6 @@ loop-preserved c =
       );
       bytes = changes_go c.args.columns c.loop.rest.now c.in_ok-rest.rest.now c.loop.out.items
           c.add_change.new.out.items _ _ read c.in_ok-rest.ensures.ok c.loop.invariant.bytes;
-      counted = omega (arith, ap length read);
       adds = still_front _ c.loop.out.items c.add_change.new.out.items _ c.loop.invariant.adds c.in_ok-rest.ensures.ok;
     }
 
@@ -38,22 +36,12 @@ returns-after-loop-clause-ok c =
     ∙ ap (λ (w : List ℕ). w ++ changes_bytes (unpacked_changes c.args.columns c.args.bytes.now))
     c.reserve.ensures.items
 
-pub returns-after-loop-clause-count : goal.returns-after-loop-clause-count
-returns-after-loop-clause-count c =
-    count_end c.args.columns c.loop.count c.loop.rest.now _ (changes_none c.args.columns c.loop.rest.now (omega arith))
-    c.loop.invariant.counted
-
 pub returns-in_default-clause-ok : goal.returns-in_default-clause-ok
 returns-in_default-clause-ok c =
     let none = changes_none c.args.columns c.loop.rest.now c.in_default.ensures.cases in
     changes_end c.args.columns c.loop.rest.now c.loop.out.items _ none c.loop.invariant.bytes
     ∙ ap (λ (w : List ℕ). w ++ changes_bytes (unpacked_changes c.args.columns c.args.bytes.now))
     c.reserve.ensures.items
-
-pub returns-in_default-clause-count : goal.returns-in_default-clause-count
-returns-in_default-clause-count c =
-    count_end c.args.columns c.loop.count c.loop.rest.now _
-    (changes_none c.args.columns c.loop.rest.now c.in_default.ensures.cases) c.loop.invariant.counted
 
 pub returns-in_default-split_first-clause-ok : goal.returns-in_default-split_first-clause-ok
 returns-in_default-split_first-clause-ok c =
@@ -62,9 +50,3 @@ returns-in_default-split_first-clause-ok c =
     changes_end c.args.columns c.loop.rest.now c.loop.out.items _ none c.loop.invariant.bytes
     ∙ ap (λ (w : List ℕ). w ++ changes_bytes (unpacked_changes c.args.columns c.args.bytes.now))
     c.reserve.ensures.items
-
-pub returns-in_default-split_first-clause-count : goal.returns-in_default-split_first-clause-count
-returns-in_default-split_first-clause-count c =
-    count_end c.args.columns c.loop.count c.loop.rest.now _
-    (changes_short c.args.columns c.loop.rest.now c.in-Some.field-0-0.now c.in-Some.behind.now
-    c.in-Some.ensures.cases.0 c.in_default-split_first.ensures.cases) c.loop.invariant.counted

@@ -6,10 +6,8 @@ use Rattle.cs_model.proofs.canonical.add_said.Given as goal
 -- the rest
 abbrev pub invariant-loop : goal.invariant-loop
 invariant-loop l = record {
-  turns : l.count ≡ l.counter;
   enough : length l.rest + l.counter ≤ length l.bytes;
   bytes : l.out.items ++ changes_bytes (unpacked_changes l.columns l.rest) ≡ l.initial.out.items
       ++ changes_bytes (unpacked_changes l.columns l.bytes);
-  counted : l.count + length (unpacked_changes l.columns l.rest) ≡ length (unpacked_changes l.columns l.bytes);
   adds : take (length l.initial.out.items) l.out.items ≡ l.initial.out.items;
 }

@@ -1,8 +1,7 @@
 use Rattle.std.proofs.Common.{◌≡◌, ℕ, List, ◌-◌, ◌++◌, IfSome, take, drop, length, ap, subst, ◌∙◌, sym, rules}
 use Rattle.std.proofs.lemmas.List.{take_rest}
 use Rattle.cs_model.specs.Varint.{varint}
-use Rattle.cs_model.proofs.spelling.VarintLemmas.{stripped}
-use Rattle.cs_model.proofs.spelling.CanonicalOnly.{only_strip}
+use Rattle.cs_model.proofs.spelling.VarintLemmas.{only_strip, stripped}
 use Rattle.cs_model.proofs.varint.varint_strip.Goals as goal
 
 pub returns-clause-found : goal.returns-clause-found
