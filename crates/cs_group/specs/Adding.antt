@@ -5,8 +5,6 @@ use Rattle.std.specs.Map.{lookup}
 use Rattle.cs_model.specs.declared.shape.Shape.{Shape}
 use Rattle.cs_model.specs.Schema.{same_bytes, same_shape}
 use Rattle.cs_model.specs.Section.{Section}
-use Rattle.cs_group.specs.declared.clash.AnyChangeset.{AnyChangeset}
-use Rattle.cs_group.specs.declared.clash.AnyChangeset.TheVariants.{Owned, InText}
 use Rattle.cs_group.specs.declared.error.GroupError.{GroupError}
 use Rattle.cs_group.specs.declared.error.GroupError.TheVariants.{Schema, Memory}
 use Rattle.cs_group.specs.Group.{clashes, first_clash}
@@ -21,11 +19,6 @@ ReportsClash Memory clash = clash ≡ None
 abbrev pub ReportsIfSchema : GroupError → Option ℕ → Type 0
 ReportsIfSchema (Schema section) clash = clash ≡ Some section
 ReportsIfSchema Memory clash = Unit {0}
-
--- the sections of a changeset in either form
-abbrev pub sections_of : AnyChangeset → List Section
-sections_of (Owned changeset) = changeset.now
-sections_of (InText changeset) = changeset.now
 
 -- the sections of changesets, one changeset's after another's
 abbrev pub sections_in : List (List Section) → List Section

@@ -2,46 +2,13 @@
 //! each section is compared with each one before it. That takes time quadratic in the number of
 //! sections.
 
-ghost use Rattle.std.specs.Prelude.{◌≡◌, ◌++◌, [], length, take};
-ghost use Rattle.cs_model.specs.Changeset.{IsChangeset};
+ghost use Rattle.std.specs.Prelude.{◌≡◌, ◌++◌, [], take};
 ghost use Rattle.cs_group.specs.Adding.{ReportsClash, ReportsIfSchema, first_refused};
-ghost use Rattle.cs_group.specs.Adding.{sections_in, sections_of};
+ghost use Rattle.cs_group.specs.Adding.{sections_in};
 ghost use Rattle.cs_group.specs.Group.{clashes, differs_from, first_clash};
 
 use crate::error::GroupError;
-use cs_model::{Changeset, SectionRef, SectionRefs, TextChangeset};
-
-/// A changeset in either form, borrowed.
-#[derive(Clone, Copy)]
-pub(crate) enum AnyChangeset<'a> {
-    /// It has its changes.
-    Owned(&'a Changeset),
-    /// Its changes stand in the text that encodes it.
-    InText(&'a TextChangeset<'a>),
-}
-
-impl<'a> AnyChangeset<'a> {
-    /// Returns an iterator over the sections, in order.
-    pub(crate) fn iter(&self) -> SectionRefs<'a>
-        ensures same { result ≡ sections_of self.now }
-        ensures valid { IsChangeset (sections_of self.now) }
-    {
-        match *self {
-            AnyChangeset::Owned(changeset) => changeset.iter(),
-            AnyChangeset::InText(changeset) => changeset.iter(),
-        }
-    }
-
-    // the number of sections
-    fn len(&self) -> usize
-        ensures { result ≡ length (sections_of self.now) }
-    {
-        match *self {
-            AnyChangeset::Owned(changeset) => changeset.len(),
-            AnyChangeset::InText(changeset) => changeset.len(),
-        }
-    }
-}
+use cs_model::{Changeset, SectionRef, SectionRefs};
 
 // whether a section's table has the name of an earlier section's and another shape
 fn differs(section: &SectionRef, earlier: &SectionRef) -> bool
@@ -57,12 +24,12 @@ fn clashes_with(earlier: &[SectionRef], section: &SectionRef) -> bool
     earlier.iter().any(|other| differs(section, other))
 }
 
-// Whether a section clashes with one of the first sections of a changeset, as many as `count`.
-fn clashes_with_first(count: usize, changeset: &AnyChangeset, section: &SectionRef) -> bool
-    ensures { result ≡ clashes (take count (sections_of changeset.now)) section.now }
+// whether a section clashes with one of the first `count` of these
+fn clashes_with_first(count: usize, sections: &SectionRefs, section: &SectionRef) -> bool
+    ensures { result ≡ clashes (take count sections.now) section.now }
 {
     let mut left = count;
-    for other in changeset.iter() {
+    for other in sections.again() {
         if left == 0 {
             return false;
         }
@@ -79,30 +46,28 @@ fn clashes_with_any(earlier: &[Changeset], section: &SectionRef) -> bool
     ensures { result ≡ clashes (sections_in earlier.now) section.now }
 {
     for changeset in earlier {
-        if clashes_with_first(changeset.len(), &AnyChangeset::Owned(changeset), section) {
+        if clashes_with_first(changeset.len(), &changeset.iter(), section) {
             return true;
         }
     }
     false
 }
 
-// The first section of a changeset that clashes with one before it in the changeset, or with these
-// sections or changesets.
+// The first of `sections` that clashes with one before it, or with one of `added` or `earlier`.
 fn first_clash_in(
     added: &[SectionRef],
     earlier: &[Changeset],
-    changeset: &AnyChangeset,
+    sections: &SectionRefs,
 ) -> Option<usize>
-    ensures { result
-        ≡ first_clash (added.now ++ sections_in earlier.now) (sections_of changeset.now) }
+    ensures { result ≡ first_clash (added.now ++ sections_in earlier.now) sections.now }
 {
     // says that each index fits
-    let _len = changeset.len();
+    let _len = sections.len();
     let mut index = 0;
-    for section in changeset.iter() {
+    for section in sections.again() {
         if clashes_with(added, &section)
             || clashes_with_any(earlier, &section)
-            || clashes_with_first(index, changeset, &section)
+            || clashes_with_first(index, sections, &section)
         {
             return Some(index);
         }
@@ -116,7 +81,7 @@ fn first_refused_of(changesets: &[Changeset]) -> Option<usize>
     ensures { result ≡ first_refused [] changesets.now }
 {
     for (i, changeset) in changesets.iter().enumerate() {
-        let found = first_clash_in(&[], &changesets[..i], &AnyChangeset::Owned(changeset));
+        let found = first_clash_in(&[], &changesets[..i], &changeset.iter());
         if found.is_some() {
             return found;
         }
@@ -134,19 +99,19 @@ fn error_of(clash: Option<usize>) -> GroupError
     }
 }
 
-/// The error of adding a changeset to these sections. `error` is where the adding stopped, and can
-/// be `Memory` though a section clashes.
+/// The error of adding `sections` to those that were added. `error` is where the adding stopped, and
+/// can be `Memory` though a section clashes.
 pub(crate) fn error_of_one(
     error: GroupError,
     added: &[SectionRef],
-    changeset: &AnyChangeset,
+    sections: &SectionRefs,
 ) -> GroupError
-    requires { ReportsIfSchema error (first_clash added.now (sections_of changeset.now)) }
-    ensures { ReportsClash result (first_clash added.now (sections_of changeset.now)) }
+    requires { ReportsIfSchema error (first_clash added.now sections.now) }
+    ensures { ReportsClash result (first_clash added.now sections.now) }
 {
     match error {
         GroupError::Schema { .. } => error,
-        GroupError::Memory => error_of(first_clash_in(added, &[], changeset)),
+        GroupError::Memory => error_of(first_clash_in(added, &[], sections)),
     }
 }
 

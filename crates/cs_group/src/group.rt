@@ -7,10 +7,10 @@ ghost use Rattle.cs_model.specs.Section.{Section};
 ghost use Rattle.cs_write.specs.Buffer.{given};
 ghost use Rattle.cs_write.specs.Text.{text_of};
 ghost use Rattle.cs_group.specs.Adding.{Knows, ReportsClash, ReportsIfSchema, first_refused};
-ghost use Rattle.cs_group.specs.Adding.{sections_in, sections_of};
+ghost use Rattle.cs_group.specs.Adding.{sections_in};
 ghost use Rattle.cs_group.specs.Group.{first_clash, group_of};
 
-use crate::clash::{AnyChangeset, error_of_all, error_of_one};
+use crate::clash::{error_of_all, error_of_one};
 use crate::error::GroupError;
 use crate::known::{Tables, admit_all};
 use crate::output::{changeset_of, write_text};
@@ -63,7 +63,7 @@ impl<'a> Group<'a> {
         ensures refused { IfErr result (λ e. ReportsClash e (first_clash self.old changeset.now)) }
         ensures err { OnErr result (self.new ≡ self.old) }
     {
-        self.add_any(AnyChangeset::Owned(changeset))
+        self.add_sections(changeset.iter())
     }
 
     /// The same for a changeset that stands in its text.
@@ -73,23 +73,23 @@ impl<'a> Group<'a> {
         ensures refused { IfErr result (λ e. ReportsClash e (first_clash self.old changeset.now)) }
         ensures err { OnErr result (self.new ≡ self.old) }
     {
-        self.add_any(AnyChangeset::InText(changeset))
+        self.add_sections(changeset.iter())
     }
 
-    // adds a changeset in either form
-    fn add_any(&mut self, changeset: AnyChangeset<'a>) -> Result<(), GroupError>
-        ensures ok { OnOk result (self.new ≡ self.old ++ sections_of changeset.entry) }
-        ensures fits { OnOk result (first_clash self.old (sections_of changeset.entry) ≡ None) }
-        ensures refused { IfErr result (λ e.
-            ReportsClash e (first_clash self.old (sections_of changeset.entry))) }
+    // adds the sections of a changeset
+    fn add_sections(&mut self, sections: SectionRefs<'a>) -> Result<(), GroupError>
+        requires { IsChangeset sections }
+        ensures ok { OnOk result (self.new ≡ self.old ++ sections.entry) }
+        ensures fits { OnOk result (first_clash self.old sections.entry ≡ None) }
+        ensures refused { IfErr result (λ e. ReportsClash e (first_clash self.old sections.entry)) }
         ensures err { OnErr result (self.new ≡ self.old) }
     {
         let known = self.tables.len();
         let held = self.added.len();
-        if let Err(error) = take_in(&mut self.tables, &mut self.added, changeset.iter()) {
+        if let Err(error) = take_in(&mut self.tables, &mut self.added, sections.again()) {
             self.tables.truncate(known);
             self.added.truncate(held);
-            return Err(error_of_one(error, &self.added, &changeset));
+            return Err(error_of_one(error, &self.added, &sections));
         }
         Ok(())
     }

@@ -1,4 +1,4 @@
-//! The key of a row as a map's key: bytes where they stand in a record, or copied.
+//! The key of a map: bytes where they stand, or copied.
 
 ghost use Rattle.std.specs.Prelude.{◌≡◌, ◌∷◌, [], ℕ, IfOk, List};
 ghost use Rattle.std.specs.Cmp.{partial_equiv_from_equiv};
@@ -18,13 +18,14 @@ use std::marker::Model;
 /// The bytes of a key.
 #[derive(Debug, Drop)]
 pub(crate) enum KeyBytes<'a> {
-    /// They stand in a record.
+    /// They stand in a record or in a header.
     InPlace(&'a [u8]),
     /// They are copied from columns apart.
     Copied(Octets),
 }
 
-/// The key of a row: its key columns' values in canonical form. Contracts see the bytes.
+/// The key of a row, its key columns' values in canonical form; or a table's name. Contracts see the
+/// bytes.
 #[derive(Debug, Drop)]
 pub(crate) struct Key<'a> {
     bytes: KeyBytes<'a>,
@@ -57,6 +58,15 @@ impl<'a> Key<'a> {
             None => KeyBytes::Copied(key_of_row(alloc, flags, &change)?),
         };
         Ok(Key { bytes })
+    }
+
+    /// A table's name as a key.
+    pub(crate) fn in_place(name: &'a [u8]) -> Key<'a>
+        ensures { result ≡ name.now }
+    {
+        Key {
+            bytes: KeyBytes::InPlace(name),
+        }
     }
 
     // the bytes

@@ -2,62 +2,18 @@
 
 ghost use Rattle.std.specs.Prelude.{◌≡◌, ◌++◌, ◌∷◌, [], None, IfErr, IfOk, List, OnOk, length};
 ghost use Rattle.std.specs.Prelude.{false, not, take};
-ghost use Rattle.std.specs.Cmp.{partial_equiv_from_equiv};
-ghost use Rattle.std.specs.Cmp.Lexicographic.{nat_list_eq_equiv, same_text};
-ghost use Rattle.std.proofs.Common.{ap, sym};
-ghost use Rattle.cs_model.specs.Schema.{same_bytes};
 ghost use Rattle.cs_model.specs.Section.{Section};
 ghost use Rattle.cs_group.specs.Adding.{Knows, ReportsIfSchema, differs_by, known_as};
 ghost use Rattle.cs_group.specs.Group.{clashes, first_clash};
 
 use crate::error::GroupError;
+use crate::key::Key;
 use cs_model::{SectionRef, ShapeRef};
 use indexmap::IndexMap;
 use std::alloc::AllocError;
-use std::hash::{Hash, Hasher};
-use std::marker::Model;
-
-/// A table's name as a map's key. Contracts see its bytes.
-#[derive(Debug, Drop)]
-pub(crate) struct Name<'a> {
-    bytes: &'a [u8],
-}
-
-impl<'a> Model for Name<'a> {
-    ghost use Rattle.std.specs.Prelude.{ℕ, List};
-
-    ghost Value = { List ℕ };
-
-    ghost view = { λ n. n.bytes.now };
-}
-
-impl<'a> PartialEq for Name<'a> {
-    ghost eq = { same_bytes };
-
-    ghost laws = { partial_equiv_from_equiv nat_list_eq_equiv };
-
-    fn eq(&self, other: &Self) -> bool {
-        self.bytes == other.bytes
-    }
-}
-
-impl<'a> Eq for Name<'a> {
-    ghost laws = { nat_list_eq_equiv };
-}
-
-impl<'a> Hash for Name<'a> {
-    ghost hash_input = { λ n. n ∷ [] };
-
-    ghost respects_eq = { λ n m same. ap (λ bytes. bytes ∷ []) (same_text n m (sym same)) };
-
-    // all bytes at once: a slice feeds one after another
-    fn hash<H: Hasher>(&self, state: &mut H) {
-        state.write(self.bytes);
-    }
-}
 
 /// The shape of each table, by its name.
-pub(crate) type Tables<'a> = IndexMap<Name<'a>, ShapeRef<'a>>;
+pub(crate) type Tables<'a> = IndexMap<Key<'a>, ShapeRef<'a>>;
 
 /// Whether a section's table has the shape that is known by its name. A new name becomes known.
 pub(crate) fn admit<'a>(tables: &mut Tables<'a>, shape: ShapeRef<'a>) -> Result<bool, AllocError>
@@ -68,7 +24,7 @@ pub(crate) fn admit<'a>(tables: &mut Tables<'a>, shape: ShapeRef<'a>) -> Result<
         → clashes earlier section ≡ false → Knows (earlier ++ section ∷ []) tables.new.entries) }
     ensures kept { take (length tables.old.entries) tables.new.entries ≡ tables.old.entries }
 {
-    let name = Name { bytes: shape.name };
+    let name = Key::in_place(shape.name);
     if let Some(known) = tables.get(&name) {
         return Ok(*known == shape);
     }

@@ -64,8 +64,7 @@ fn add_section<'a>(
     Ok((rest, why))
 }
 
-// Adds the section of this table with the `count` changes that `text` encodes. Copies canonical
-// changes as one piece, and re-encodes the others.
+// Adds the section of this table with the `count` changes that `text` encodes.
 fn push_section(
     sections: &mut Sections,
     shape: &ShapeRef,
@@ -82,13 +81,8 @@ fn push_section(
       changes = unpacked_changes (length shape.now.flags) text.now;
     } ∷ []) }
 {
-    let columns = shape.flags.len();
     sections.push_header(shape)?;
-    if canonical {
-        sections.push_canonical(columns, text, count)
-    } else {
-        sections.push_text(columns, text)
-    }
+    sections.push_text(shape.flags.len(), text, count, canonical)
 }
 
 // Adds the next section if its header is complete, with its complete changes. Returns the bytes

@@ -4,7 +4,7 @@ ghost use Rattle.std.specs.Prelude.{◌≡◌};
 ghost use Rattle.cs_write.specs.Own.{IsFormBeside};
 ghost use Rattle.cs_write.specs.Text.{text_of};
 
-use crate::form::Form;
+use crate::form::FormBeside;
 use crate::item::Item;
 use cs_model::{Changeset, Origin};
 use std::marker::Model;
@@ -16,7 +16,7 @@ pub struct Entry {
     number: u64,
     item: Item,
     // the canonical form of the body, exactly if the body isn't in that form itself
-    form: Form,
+    form: FormBeside,
 }
 
 impl Model for Entry {
@@ -35,7 +35,7 @@ impl Model for Entry {
 impl Entry {
     /// Makes the entry of an item under this number, with the form that `Item::form` returned.
     /// Copies nothing.
-    pub fn new(number: u64, item: Item, form: Form) -> Entry
+    pub fn new(number: u64, item: Item, form: FormBeside) -> Entry
         requires { IsFormBeside item.body form }
         ensures { result ≡ record { number = number; item = item } }
     {

@@ -12,11 +12,11 @@ use std::marker::Model;
 /// The canonical form of a changeset that isn't in that form itself, or nothing. Few have one, so it
 /// stands apart. Contracts see the form.
 #[derive(Debug, Drop)]
-pub struct Form {
+pub struct FormBeside {
     other: Option<Box<Changeset>>,
 }
 
-impl Model for Form {
+impl Model for FormBeside {
     ghost use Rattle.std.specs.Prelude.{List, Option};
     ghost use Rattle.std.specs.Option.{option_map};
     ghost use Rattle.std.specs.Coded.{coded_list, coded_option};
@@ -29,16 +29,16 @@ impl Model for Form {
     ghost view = { λ f. option_map (λ form. form.value) f.other };
 }
 
-impl Form {
+impl FormBeside {
     /// The form that stands beside this changeset. Returns `AllocError` if memory runs out.
-    pub fn beside(alloc: Global, changeset: &Changeset) -> Result<Form, AllocError>
+    pub fn of(alloc: Global, changeset: &Changeset) -> Result<FormBeside, AllocError>
         ensures { IfOk result (λ form. IsFormBeside changeset.now form) }
     {
         let other = match other_form(alloc, changeset)? {
             Some(form) => Some(Box::new(alloc, form)?),
             None => None,
         };
-        Ok(Form { other })
+        Ok(FormBeside { other })
     }
 
     /// The canonical text of the changeset that it stands beside.

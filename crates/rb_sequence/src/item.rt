@@ -3,7 +3,7 @@
 ghost use Rattle.std.specs.Prelude.{IfOk};
 ghost use Rattle.cs_write.specs.Own.{IsFormBeside};
 
-use crate::form::Form;
+use crate::form::FormBeside;
 use cs_model::{Changeset, Origin};
 use std::alloc::{AllocError, Global};
 
@@ -23,9 +23,9 @@ pub struct Item {
 impl Item {
     /// The canonical form of its body, for its entry, if the body isn't in that form itself. Returns
     /// `AllocError` if memory runs out.
-    pub fn form(&self, alloc: Global) -> Result<Form, AllocError>
+    pub fn form(&self, alloc: Global) -> Result<FormBeside, AllocError>
         ensures { IfOk result (λ form. IsFormBeside self.now.body form) }
     {
-        Form::beside(alloc, &self.body)
+        FormBeside::of(alloc, &self.body)
     }
 }

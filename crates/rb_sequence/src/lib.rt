@@ -15,7 +15,7 @@ mod told;
 
 pub use cells::ReadyError;
 pub use entry::Entry;
-pub use form::Form;
+pub use form::FormBeside;
 pub use item::Item;
 pub use ready::Ready;
 pub use segment::{Cell, HoldsAny, HoldsItsCells, HoldsItsNumber};

@@ -1,6 +1,6 @@
 use Rattle.std.proofs.Common.{◌≡◌, ◌∙◌, ◌++◌, ◌+◌, false, take, length, sym, ap, arith, length-drop}
 use Rattle.std.specs.Prelude.{option_map}
-use Rattle.cs_group.specs.Adding.{sections_in, sections_of}
+use Rattle.cs_group.specs.Adding.{sections_in}
 use Rattle.cs_group.specs.Group.{clashes, first_clash}
 use Rattle.cs_group.proofs.schemas.Knowing.{clash_next, clashes_with_none, next_is}
 use Rattle.cs_group.proofs.clash.first_clash_in.Goals as goal
@@ -8,7 +8,7 @@ use Rattle.cs_group.proofs.clash.first_clash_in.Goals as goal
 pub loop-section-preserved : goal.loop-section-preserved
 loop-section-preserved c =
     let i = c.loop-section.index in
-    let all = sections_of c.args.changeset.now in
+    let all = c.args.sections.now in
     let between = sections_in c.args.earlier.now in
     let earlier = c.args.added.now ++ between in
     let section = c.in-Some.section in
@@ -30,6 +30,6 @@ pub overflow_add-index : goal.overflow_add-index
 overflow_add-index c = omega (
   arith,
   ap length (sym c.in-Some.ensures.steps ∙ c.loop-section.invariant.rest),
-  length-drop c.loop-section.index (sections_of c.args.changeset.now),
+  length-drop c.loop-section.index c.args.sections.now,
   c.len-len.ensures,
 )

@@ -22,7 +22,7 @@ pushed_last tables new name shape none same inserted =
 pub returns-in-Some-clause-knows : goal.returns-in-Some-clause-knows
 returns-in-Some-clause-knows c = λ earlier section is knows fits.
     let tables = c.args.tables.now.entries in
-    let name = ap (λ (s : Shape). s.name) c.shape.view_is in
+    let name = c.in_place-name.ensures ∙ ap (λ (s : Shape). s.name) c.shape.view_is in
     knows_old earlier section tables c.in-Some.known.now
     (ap (λ s. known_as tables s.name) is ∙ ap (known_as tables) (sym name) ∙ sym c.in-Some.ensures.value) knows fits
 
@@ -30,7 +30,7 @@ pub returns-clause-knows : goal.returns-clause-knows
 returns-clause-knows c = λ earlier section is knows fits.
     let tables = c.args.tables.now in
     let shape = c.args.shape in
-    let name = ap (λ (s : Shape). s.name) c.shape.view_is in
+    let name = c.in_place-name.ensures ∙ ap (λ (s : Shape). s.name) c.shape.view_is in
     let none : lookup (same_bytes shape.name) tables.entries ≡ None =
     ap (λ n. lookup (same_bytes n) tables.entries) (sym name) ∙ sym c.in_default.ensures.value in
     subst (Knows (earlier ++ section ∷ []))
@@ -43,7 +43,7 @@ pub returns-clause-kept : goal.returns-clause-kept
 returns-clause-kept c =
     let tables = c.args.tables.now in
     let shape = c.args.shape in
-    let name = ap (λ (s : Shape). s.name) c.shape.view_is in
+    let name = c.in_place-name.ensures ∙ ap (λ (s : Shape). s.name) c.shape.view_is in
     let none : lookup (same_bytes shape.name) tables.entries ≡ None =
     ap (λ n. lookup (same_bytes n) tables.entries) (sym name) ∙ sym c.in_default.ensures.value in
     ap (take (length tables.entries))

@@ -1,29 +1,30 @@
-use Rattle.std.proofs.Common.{◌≡◌, ◌-◌, length, refl, arith}
+use Rattle.std.proofs.Common.{refl, arith}
 use Rattle.std.proofs.lemmas.Grind.{common_steps}
 use Rattle.cs_model.specs.PackedChanges.{changes_bytes, unpacked_changes}
-use Rattle.cs_model.proofs.texts.GrowthLaws.{added_len, can_push, fewer, of_last, pushed_text}
+use Rattle.cs_model.specs.Sections.{with_changes}
+use Rattle.cs_model.proofs.texts.GrowthLaws.{TextGrows, added_len, can_push, fewer, of_last, pushed_text}
 use Rattle.cs_model.proofs.sections.Sections.push_text.Goals as goal
-use Rattle.cs_model.proofs.sections.Sections.push_text.Goals.{After-len}
+use Rattle.cs_model.proofs.sections.Sections.push_text.Goals.{After-grow_last}
 
--- the bytes of the changes are as many as were added
-long : (c : After-len) → c.len.result - c.len-start.result ≡
-    length (changes_bytes (unpacked_changes c.args.columns c.args.text.now))
-long c = added_len c.self.inside.text.items c.spelled_push.new.out.items _ c.len-start.result c.len.result
-    c.in_ok-spelled_push.ensures.ok (grind (arith, common_steps)) (grind (arith, common_steps))
+-- the sections have the changes at their end
+grown : (c : After-grow_last) → TextGrows c.grow_last.new.ats.items c.spelled_push.new.out.items
+    (with_changes c.args.self.now (unpacked_changes c.args.columns c.args.text.now))
+grown c =
+    let added = c.in_ok-spelled_push.ensures.ok in
+    let long = added_len c.self.inside.text.items c.spelled_push.new.out.items _ c.len-start.result c.len.result added
+    (grind (arith, common_steps)) (grind (arith, common_steps)) in
+    pushed_text _ _ _ _ _ _ _ _ _ c.self.invariant c.self.view_is
+    (of_last c.args.self.now _ _ c.requires.last c.requires.fit) added refl long c.requires.count c.grow_last.ensures
 
 pub grow_last-requires : goal.grow_last-requires
 grow_last-requires c =
-    let bytes = changes_bytes (unpacked_changes c.args.columns c.args.text.now) in
-    let is_long = long (goal.at.grow_last-requires c).After-len in
-    can_push _ _ _ bytes _ _ c.self.invariant c.in_ok-spelled_push.ensures.ok (omega arith) is_long
-    (fewer _ bytes _ _ refl is_long c.requires.count)
+    let added = c.in_ok-spelled_push.ensures.ok in
+    let long = added_len c.self.inside.text.items c.spelled_push.new.out.items _ c.len-start.result c.len.result added
+    (grind (arith, common_steps)) (grind (arith, common_steps)) in
+    can_push _ _ _ _ _ _ c.self.invariant added (omega arith) long (fewer _ _ _ _ refl long c.requires.count)
 
 pub invariant_of-self-2 : goal.invariant_of-self-2
-invariant_of-self-2 c = (pushed_text _ _ _ _ _ _ _ _ _ c.self.invariant c.self.view_is
-    (of_last c.args.self.now _ _ c.requires.last c.requires.fit) c.in_ok-spelled_push.ensures.ok refl
-    (long (goal.at.invariant_of-self-2 c).After-len) c.requires.count c.grow_last.ensures).stands
+invariant_of-self-2 c = (grown (goal.at.invariant_of-self-2 c).After-grow_last).stands
 
 pub returns-clause-ok : goal.returns-clause-ok
-returns-clause-ok c = (pushed_text _ _ _ _ _ _ _ _ _ c.self.invariant c.self.view_is
-    (of_last c.args.self.now _ _ c.requires.last c.requires.fit) c.in_ok-spelled_push.ensures.ok refl
-    (long (goal.at.returns-clause-ok c).After-len) c.requires.count c.grow_last.ensures).says
+returns-clause-ok c = (grown (goal.at.returns-clause-ok c).After-grow_last).says
