@@ -99,8 +99,8 @@ fn error_of(clash: Option<usize>) -> GroupError
     }
 }
 
-/// The error of adding `sections` to those that were added. `error` is where the adding stopped, and
-/// can be `Memory` though a section clashes.
+/// The error of adding `sections` to those that were added. `error` is where the adding stopped,
+/// and can be `Memory` though a section clashes.
 pub(crate) fn error_of_one(
     error: GroupError,
     added: &[SectionRef],

@@ -153,8 +153,8 @@ fn push_all<'a>(
 
 /// Combines changesets into one: the `output` of a group of them.
 ///
-/// Returns the `Schema` of the first `add` that finds a clash, or `Memory` if no section clashes and
-/// memory runs out.
+/// Returns the `Schema` of the first `add` that finds a clash, or `Memory` if no section clashes
+/// and memory runs out.
 pub fn combine(alloc: Global, changesets: &[Changeset]) -> Result<Changeset, GroupError>
     ensures ok { IfOk result (λ made. made ≡ group_of (sections_in changesets.now)) }
     ensures fits { OnOk result (first_refused [] changesets.now ≡ None) }

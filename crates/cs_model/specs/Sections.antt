@@ -1,6 +1,6 @@
 -- Sections in their canonical text, one after another, and an index that says where each stands.
-use Rattle.std.specs.Prelude.{◌≡◌, ℕ, Option, Some, None, ◌+◌, ◌^◌, ◌<◌, List, [], ◌∷◌, ◌++◌, length}
-use Rattle.std.specs.Prelude.{take, drop}
+use Rattle.std.specs.Prelude.{◌≡◌, ℕ, Option, Some, None, ◌+◌, ◌^◌, ◌<◌, List, [], ◌∷◌, ◌++◌}
+use Rattle.std.specs.Prelude.{length, take, drop}
 use Rattle.std.specs.List.{AllByRecursion}
 use Rattle.cs_model.specs.declared.change.Change.{Change}
 use Rattle.cs_model.specs.PackedChanges.{Fit, Long, changes_bytes, unpacked_changes}
@@ -73,7 +73,8 @@ pub record StartsSection (at : At) (bytes rest : List ℕ) : Type 0 where
 -- the index with so many bytes and changes more in the last section
 abbrev pub grown_index : List At → ℕ → ℕ → List At
 grown_index [] size count = []
-grown_index (at ∷ []) size count = record at { size = at.size + size; count = at.count + count } ∷ []
+grown_index (at ∷ []) size count =
+    record at { size = at.size + size; count = at.count + count } ∷ []
 grown_index (at ∷ next ∷ ats) size count = at ∷ grown_index (next ∷ ats) size count
 
 -- the last section can have so many bytes and changes more
@@ -93,7 +94,8 @@ with_changes (section ∷ next ∷ sections) changes = section ∷ with_changes 
 abbrev pub LastIsLong : List Section → Op → List Field → List Field → Type 0
 LastIsLong [] op before after = ⊥
 LastIsLong (section ∷ []) op before after = Long (length section.shape.flags) op before after
-LastIsLong (section ∷ next ∷ sections) op before after = LastIsLong (next ∷ sections) op before after
+LastIsLong (section ∷ next ∷ sections) op before after =
+    LastIsLong (next ∷ sections) op before after
 
 -- there is a last section, and these changes have canonical bytes in its table
 abbrev pub FitLast : List Section → List Change → Type 0

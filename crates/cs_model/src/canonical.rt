@@ -1,11 +1,11 @@
-//! Re-encodes changes in canonical form. A text may encode a length with leading zeros, and an
-//! indirect change with any nonzero byte.
+//! Encodes changes in canonical form. A text may encode a length with leading zeros, and an indirect
+//! change with any nonzero byte.
 
-ghost use Rattle.std.specs.Prelude.{◌≡◌, IfOk, OnErr, length, take};
+ghost use Rattle.std.specs.Prelude.{◌≡◌, IfOk, IsTrue, OnErr, length, take};
 ghost use Rattle.cs_model.specs.Bytes.{AddsBytes};
 ghost use Rattle.cs_model.specs.Packed.{packed};
 ghost use Rattle.cs_model.specs.PackedChanges.{change_bytes, changes_bytes, some_in, records_by};
-ghost use Rattle.cs_model.specs.PackedChanges.{unpacked_changes};
+ghost use Rattle.cs_model.specs.PackedChanges.{AreCanonical, unpacked_changes};
 
 use crate::change::Op;
 use crate::change_ref::op_of;
@@ -13,13 +13,22 @@ use crate::field::field_push;
 use crate::fields::typed_of;
 use std::alloc::AllocError;
 
-/// Appends the changes that `bytes` encodes to `out` in canonical form. An `Err` does not change
-/// `out`.
-pub fn text_push(out: &mut Vec<u8>, columns: usize, bytes: &[u8]) -> Result<(), AllocError>
+/// Appends the changes that `bytes` encodes to `out` in canonical form: in one copy if they are
+/// `canonical` there. An `Err` does not change `out`.
+pub fn text_push(
+    out: &mut Vec<u8>,
+    columns: usize,
+    bytes: &[u8],
+    canonical: bool,
+) -> Result<(), AllocError>
+    requires { IsTrue canonical → AreCanonical columns bytes.now }
     ensures ok { AddsBytes result out.old out.new
         (changes_bytes (unpacked_changes columns bytes.now)) }
     ensures err { OnErr result (out.new.items ≡ out.old.items) }
 {
+    if canonical {
+        return out.extend_from_slice(bytes);
+    }
     let start = out.len();
     let added = add_said(out, columns, bytes);
     if added.is_err() {

@@ -4,13 +4,13 @@ ghost use Rattle.std.specs.Prelude.{◌≡◌, ◌==◌, ◌++◌, ◌∷◌, []
 ghost use Rattle.std.specs.Prelude.{IsTrue, MatchOption, None, Some};
 ghost use Rattle.std.specs.List.{AllByRecursion};
 ghost use Rattle.cs_model.specs.Bytes.{AddsBytes};
-ghost use Rattle.cs_model.specs.PackedChanges.{AreCanonical, Fit, change_of, changes_bytes};
-ghost use Rattle.cs_model.specs.PackedChanges.{unpacked_changes};
+ghost use Rattle.cs_model.specs.PackedChanges.{AreCanonical, Fit, change_of, unpacked_changes};
 ghost use Rattle.cs_model.specs.SectionText.{header_text, sections_text};
 ghost use Rattle.cs_model.specs.Section.{Section};
 ghost use Rattle.cs_model.specs.Seen.{change_seen, fields_seen};
 ghost use Rattle.cs_model.specs.Sections.{EndsWithSection, FitLast, IsPlaceOf, IsText};
-ghost use Rattle.cs_model.specs.Sections.{LastHasColumns, LastIsLong, last_flags, sections_by, with_changes};
+ghost use Rattle.cs_model.specs.Sections.{LastHasColumns, LastIsLong, last_flags, sections_by};
+ghost use Rattle.cs_model.specs.Sections.{with_changes};
 
 use crate::at::{At, grow_at, grow_last};
 use crate::canonical::text_push;
@@ -171,7 +171,7 @@ impl Sections {
         ensures err { OnErr result (self.new ≡ self.old) }
     {
         let start = self.text.len();
-        spelled_push(&mut self.text, columns, text, canonical)?;
+        text_push(&mut self.text, columns, text, canonical)?;
         let size = self.text.len() - start;
         grow_last(&mut self.ats, size, count);
         Ok(())
@@ -196,8 +196,8 @@ impl Sections {
         Ok(())
     }
 
-    /// Adds the `count` changes that a text encodes to the last section, as `push_text` does, and then
-    /// other sections. An `Err` changes nothing.
+    /// Adds the `count` changes that a text encodes to the last section, as `push_text` does, and
+    /// then other sections. An `Err` changes nothing.
     pub fn join(
         &mut self,
         columns: usize,
@@ -216,7 +216,7 @@ impl Sections {
     {
         let len = self.ats.len();
         let start = self.text.len();
-        spelled_push(&mut self.text, columns, text, canonical)?;
+        text_push(&mut self.text, columns, text, canonical)?;
         let size = self.text.len() - start;
         let (more, mut ats) = others.into_parts();
         match append_both(&mut self.text, &mut self.ats, &more, &mut ats) {
@@ -272,25 +272,6 @@ impl Sections {
             ats: Vec::from_slice(alloc, &self.ats)?,
         })
     }
-}
-
-// Appends the canonical bytes of the changes that a text encodes. An `Err` changes nothing.
-fn spelled_push(
-    out: &mut Vec<u8>,
-    columns: usize,
-    text: &[u8],
-    canonical: bool,
-) -> Result<(), AllocError>
-    requires fit { AllByRecursion (Fit columns) (unpacked_changes columns text.now) }
-    requires canonical { IsTrue canonical → AreCanonical columns text.now }
-    ensures ok { AddsBytes result out.old out.new
-        (changes_bytes (unpacked_changes columns text.now)) }
-    ensures err { OnErr result (out.new.items ≡ out.old.items) }
-{
-    if canonical {
-        return out.extend_from_slice(text);
-    }
-    text_push(out, columns, text)
 }
 
 // the key flags of the section at the end of a text

@@ -1,6 +1,6 @@
 //! Events of the sequence: place the next item, close.
 
-ghost use Rattle.std.specs.Prelude.{◌≡◌, None, IfOk, OnErr};
+ghost use Rattle.std.specs.Prelude.{◌≡◌, ◌<◌, None, IfOk, OnErr, OnOk, vec_capacity, vec_len};
 ghost use Rattle.std.specs.Option.{option_copied};
 ghost use Rattle.rb_core.specs.Outcome.{hand_of, rest_of};
 ghost use Rattle.rb_core.specs.Memory.{MayRunOut};
@@ -31,7 +31,7 @@ impl Parts {
             return refused(BrokerRefusal::Desk(why));
         }
         let form = item.form(alloc)?;
-        self.sequence.reserve(1)?;
+        make_room(&mut self.sequence)?;
         let item = take_next(&mut self.hand, &mut self.intake).unwrap();
         let number = self.desk.place();
         self.sequence.push_reserved(Entry::new(number, item, form));
@@ -63,6 +63,19 @@ impl Parts {
     {
         Reply::Closed(self.desk.close())
     }
+}
+
+// Makes room for one more entry. The array grows by a quarter, since one that doubles would be half
+// empty, and entries take most of a broker's memory.
+fn make_room(sequence: &mut Vec<Entry>) -> Result<(), AllocError>
+    ensures entries { sequence.new.items ≡ sequence.old.items }
+    ensures room { OnOk result (vec_len sequence.new < vec_capacity sequence.new) }
+{
+    let len = sequence.len();
+    if len < sequence.capacity() {
+        return Ok(());
+    }
+    sequence.reserve_exact(len / 4 + 16)
 }
 
 // takes the item that a turn places next, from the hand or from the intake

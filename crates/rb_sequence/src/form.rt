@@ -9,8 +9,8 @@ use cs_write::other_form;
 use std::alloc::{AllocError, Global};
 use std::marker::Model;
 
-/// The canonical form of a changeset that isn't in that form itself, or nothing. Few have one, so it
-/// stands apart. Contracts see the form.
+/// The canonical form of a changeset that isn't in that form itself, or nothing. Few have one, so
+/// it stands apart. Contracts see the form.
 #[derive(Debug, Drop)]
 pub struct FormBeside {
     other: Option<Box<Changeset>>,

@@ -21,8 +21,8 @@ pub struct Item {
 }
 
 impl Item {
-    /// The canonical form of its body, for its entry, if the body isn't in that form itself. Returns
-    /// `AllocError` if memory runs out.
+    /// The canonical form of its body, for its entry, if the body isn't in that form itself.
+    /// Returns `AllocError` if memory runs out.
     pub fn form(&self, alloc: Global) -> Result<FormBeside, AllocError>
         ensures { IfOk result (λ form. IsFormBeside self.now.body form) }
     {

@@ -11,8 +11,8 @@ use Rattle.cs_model.proofs.sections.Sections.join.Goals.{After-grow_at}
 pub grow_at-requires-clause-room : goal.grow_at-requires-clause-room
 grow_at-requires-clause-room c =
     let bytes = changes_bytes (unpacked_changes c.args.columns c.args.text.now) in
-    let added = c.in_ok-spelled_push.ensures.ok in
-    let long = added_len c.self.inside.text.items c.spelled_push.new.out.items bytes c.len-start.result c.len.result
+    let added = c.in_ok-text_push.ensures.ok in
+    let long = added_len c.self.inside.text.items c.text_push.new.out.items bytes c.len-start.result c.len.result
     added (grind (arith, common_steps)) (grind (arith, common_steps)) in
     let index = index_joined c.self.inside.ats.items _ c.append_both.new.ats.items c.len-len.result (c.len.result - c.len-start.result)
     c.args.count c.in-Ok.ensures.ats (grind (arith, common_steps)) in
@@ -24,8 +24,8 @@ grow_at-requires-clause-room c =
 grown : (c : After-grow_at) → TextGrows c.grow_at.new.ats.items c.append_both.new.text.items
     (with_changes c.args.self.now (unpacked_changes c.args.columns c.args.text.now) ++ c.args.others)
 grown c =
-    let added = c.in_ok-spelled_push.ensures.ok in
-    let long = added_len c.self.inside.text.items c.spelled_push.new.out.items _ c.len-start.result c.len.result added
+    let added = c.in_ok-text_push.ensures.ok in
+    let long = added_len c.self.inside.text.items c.text_push.new.out.items _ c.len-start.result c.len.result added
     (grind (arith, common_steps)) (grind (arith, common_steps)) in
     let index = index_joined c.self.inside.ats.items _ c.append_both.new.ats.items c.len-len.result _ c.args.count
     c.in-Ok.ensures.ats (grind (arith, common_steps)) in
@@ -33,7 +33,7 @@ grown c =
     (of_last c.args.self.now _ _ c.requires.last c.requires.fit) added refl long c.requires.count
     (subst (λ xs. IsText c.into_parts-more.result.1.items c.into_parts-more.result.0.items xs)
     (sym c.into_parts-more.ensures.says) c.into_parts-more.ensures.stands) c.into_parts-more.ensures.says
-    (c.in-Ok.ensures.text ∙ ap (λ (w : List ℕ). c.spelled_push.new.out.items ++ w) c.deref.ensures.value)
+    (c.in-Ok.ensures.text ∙ ap (λ (w : List ℕ). c.text_push.new.out.items ++ w) c.deref.ensures.value)
     (c.grow_at.ensures ∙ index.1)
 
 pub invariant_of-self-2 : goal.invariant_of-self-2

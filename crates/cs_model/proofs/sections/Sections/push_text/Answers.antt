@@ -7,19 +7,19 @@ use Rattle.cs_model.proofs.sections.Sections.push_text.Goals as goal
 use Rattle.cs_model.proofs.sections.Sections.push_text.Goals.{After-grow_last}
 
 -- the sections have the changes at their end
-grown : (c : After-grow_last) → TextGrows c.grow_last.new.ats.items c.spelled_push.new.out.items
+grown : (c : After-grow_last) → TextGrows c.grow_last.new.ats.items c.text_push.new.out.items
     (with_changes c.args.self.now (unpacked_changes c.args.columns c.args.text.now))
 grown c =
-    let added = c.in_ok-spelled_push.ensures.ok in
-    let long = added_len c.self.inside.text.items c.spelled_push.new.out.items _ c.len-start.result c.len.result added
+    let added = c.in_ok-text_push.ensures.ok in
+    let long = added_len c.self.inside.text.items c.text_push.new.out.items _ c.len-start.result c.len.result added
     (grind (arith, common_steps)) (grind (arith, common_steps)) in
     pushed_text _ _ _ _ _ _ _ _ _ c.self.invariant c.self.view_is
     (of_last c.args.self.now _ _ c.requires.last c.requires.fit) added refl long c.requires.count c.grow_last.ensures
 
 pub grow_last-requires : goal.grow_last-requires
 grow_last-requires c =
-    let added = c.in_ok-spelled_push.ensures.ok in
-    let long = added_len c.self.inside.text.items c.spelled_push.new.out.items _ c.len-start.result c.len.result added
+    let added = c.in_ok-text_push.ensures.ok in
+    let long = added_len c.self.inside.text.items c.text_push.new.out.items _ c.len-start.result c.len.result added
     (grind (arith, common_steps)) (grind (arith, common_steps)) in
     can_push _ _ _ _ _ _ c.self.invariant added (omega arith) long (fewer _ _ _ _ refl long c.requires.count)
 
