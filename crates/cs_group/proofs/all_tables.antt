@@ -5,4 +5,3 @@ pub mod Together
 pub mod Tables
 pub mod Fitting
 pub mod Law
-pub mod OwnForm

@@ -3,4 +3,4 @@ pub mod StepLaw
 pub mod Slots
 pub mod Seen
 pub mod Holding
-pub mod SlotBytes
+pub mod SlotSteps

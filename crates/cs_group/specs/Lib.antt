@@ -5,4 +5,4 @@ pub mod Slots
 pub mod Table
 pub mod Adding
 pub mod Key
-pub mod Text
+pub mod TableRows

@@ -13,8 +13,9 @@ ghost use Rattle.cs_group.specs.Group.{first_clash, group_of};
 use crate::clash::{error_of_all, error_of_one};
 use crate::error::GroupError;
 use crate::known::{Tables, admit_all};
-use crate::output::{changeset_of, write_text};
+use crate::output::changeset_of;
 use cs_model::{Changeset, SectionRef, SectionRefs, TextChangeset};
+use cs_write::write_to;
 use indexmap::IndexMap;
 use std::alloc::{AllocError, Global};
 use std::marker::Model;
@@ -104,14 +105,14 @@ impl<'a> Group<'a> {
     }
 
     /// Writes the canonical text of `output` to the front of `out`, and returns its length in
-    /// bytes. Makes no changeset of it. If `out` is shorter, writes nothing. Returns `AllocError`
-    /// if memory runs out, which does not change `out`.
+    /// bytes. If `out` is shorter, writes nothing. Returns `AllocError` if memory runs out, which
+    /// does not change `out`.
     pub fn write_to(&self, alloc: Global, out: &mut [u8]) -> Result<usize, AllocError>
         ensures length { IfOk result (λ n. n ≡ length (text_of (group_of self.now))) }
         ensures written { OnOk result (out.new ≡ given (text_of (group_of self.now)) out.old) }
         ensures err { OnErr result (out.new ≡ out.old) }
     {
-        write_text(alloc, &self.added, out)
+        write_to(alloc, &self.output(alloc)?, out)
     }
 }
 

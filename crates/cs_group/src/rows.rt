@@ -1,20 +1,16 @@
-//! What all changes of one table come to, as changes and as text.
+//! What all changes of one table come to.
 
-ghost use Rattle.std.specs.Prelude.{◌≡◌, ◌+◌, ◌≤◌, ◌++◌, ◌∷◌, [], IfOk, OnOk, length, nat_lt};
+ghost use Rattle.std.specs.Prelude.{◌≡◌, ◌++◌, ◌∷◌, [], IfOk, OnOk, length, nat_lt};
 ghost use Rattle.std.specs.List.{AllByRecursion};
 ghost use Rattle.cs_model.specs.Changeset.{IsChange, all_changes};
-ghost use Rattle.cs_model.specs.PackedChanges.{changes_bytes};
-ghost use Rattle.cs_write.specs.Buffer.{laid};
-ghost use Rattle.cs_write.specs.Lengths.{held};
 ghost use Rattle.cs_group.specs.Group.{combined};
 ghost use Rattle.cs_group.specs.Table.{HasColumnsOf, slot_changes, slots_seen};
-ghost use Rattle.cs_group.specs.Text.{rows_seen, table_text};
+ghost use Rattle.cs_group.specs.TableRows.{rows_seen};
 
 use crate::slot::Slot;
 use crate::table::Table;
 use cs_model::laws::changes_fit;
 use cs_model::{SectionRef, Sections, ShapeRef};
-use cs_write::{add_lengths, header_len, put_header};
 use std::alloc::{AllocError, Global};
 
 /// The rows of a table, each with the change that its changes come to, or none.
@@ -74,62 +70,5 @@ impl<'s, 'a> Rows<'s, 'a> {
             }
         }
         false
-    }
-
-    // the length of the changes, in bytes
-    fn changes_len(&self) -> Option<usize>
-        ensures { result ≡ held (length
-            (changes_bytes (slot_changes (slots_seen self.now.slots.items)))) }
-    {
-        let mut len = Some(0);
-        for slot in &self.slots {
-            let Some(slot) = slot else {
-                continue;
-            };
-            len = add_lengths(len, slot.text_len());
-        }
-        len
-    }
-
-    /// The length of the table's text in bytes, 0 if no row has a change.
-    pub(crate) fn text_len(&self) -> Option<usize>
-        ensures { result ≡ held (length (table_text (rows_seen self.now))) }
-    {
-        if !self.any_change() {
-            return Some(0);
-        }
-        add_lengths(header_len(self.shape), self.changes_len())
-    }
-
-    // Writes the changes.
-    fn put_changes(&self, out: &mut [u8], at: usize) -> usize
-        requires { at + length (changes_bytes (slot_changes (slots_seen self.now.slots.items)))
-            ≤ length out.old }
-        ensures end { result ≡ at
-            + length (changes_bytes (slot_changes (slots_seen self.now.slots.items))) }
-        ensures bytes { out.new ≡ laid at
-            (changes_bytes (slot_changes (slots_seen self.now.slots.items))) out.old }
-    {
-        let mut end = at;
-        for slot in &self.slots {
-            let Some(slot) = slot else {
-                continue;
-            };
-            end = slot.put(out, end);
-        }
-        end
-    }
-
-    /// Writes the table's text: its header and the changes, or nothing if no row has a change.
-    pub(crate) fn put(&self, out: &mut [u8], at: usize) -> usize
-        requires { at + length (table_text (rows_seen self.now)) ≤ length out.old }
-        ensures end { result ≡ at + length (table_text (rows_seen self.now)) }
-        ensures bytes { out.new ≡ laid at (table_text (rows_seen self.now)) out.old }
-    {
-        if !self.any_change() {
-            return at;
-        }
-        let end = put_header(out, at, self.shape);
-        self.put_changes(out, end)
     }
 }

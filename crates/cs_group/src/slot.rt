@@ -1,16 +1,12 @@
 //! What the changes of a row come to so far.
 
-ghost use Rattle.std.specs.Prelude.{◌≡◌, ◌+◌, ◌≤◌, ◌∷◌, [], IfOk, OnOk, length};
-ghost use Rattle.cs_model.specs.PackedChanges.{change_bytes};
+ghost use Rattle.std.specs.Prelude.{◌≡◌, ◌∷◌, [], IfOk, OnOk};
 ghost use Rattle.cs_model.specs.Sections.{LastIsLong, with_changes};
 ghost use Rattle.cs_model.specs.Seen.{change_seen, fields_seen};
-ghost use Rattle.cs_write.specs.Buffer.{laid};
-ghost use Rattle.cs_write.specs.Lengths.{held};
 ghost use Rattle.cs_group.specs.Slots.{merged_seen, slot_seen};
 ghost use Rattle.cs_group.specs.Table.{met_at, slots_seen};
 
 use cs_model::{FieldRef, Op, PackedChange, RecordRef, Sections};
-use cs_write::{add_lengths, fields_len, put_bytes, put_fields, put_operation};
 use std::alloc::{AllocError, Global};
 
 /// A change that comes from several. Its fields stand in the changesets that they come from.
@@ -32,36 +28,6 @@ pub(crate) enum Slot<'a> {
 }
 
 impl<'a> Slot<'a> {
-    /// The length of the change in canonical form, in bytes.
-    #[tactic(auto, using(cs_write::proofs::buffers::Held::holding))]
-    pub(crate) fn text_len(&self) -> Option<usize>
-        ensures { result ≡ held (length (change_bytes (slot_seen self.now))) }
-    {
-        match self {
-            Slot::Alone(change) => Some(change.bytes().len()),
-            Slot::Merged(merged) => {
-                let records = add_lengths(fields_len(&merged.before), fields_len(&merged.after));
-                add_lengths(Some(2), records)
-            }
-        }
-    }
-
-    /// Writes the change in canonical form.
-    pub(crate) fn put(&self, out: &mut [u8], at: usize) -> usize
-        requires { at + length (change_bytes (slot_seen self.now)) ≤ length out.old }
-        ensures end { result ≡ at + length (change_bytes (slot_seen self.now)) }
-        ensures bytes { out.new ≡ laid at (change_bytes (slot_seen self.now)) out.old }
-    {
-        match self {
-            Slot::Alone(change) => put_bytes(out, at, change.bytes()),
-            Slot::Merged(merged) => {
-                let mut end = put_operation(out, at, merged.op, merged.indirect);
-                end = put_fields(out, end, &merged.before);
-                put_fields(out, end, &merged.after)
-            }
-        }
-    }
-
     /// The change as lists of fields, of which a record has `columns`.
     pub(crate) fn into_merged(
         self,

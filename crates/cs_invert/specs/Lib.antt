@@ -1,2 +1,1 @@
 pub mod Inverse
-pub mod Text

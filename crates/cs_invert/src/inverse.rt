@@ -1,7 +1,7 @@
 //! The inverse of a changeset.
 
 ghost use Rattle.std.specs.Prelude.{◌≡◌, ◌==◌, ◌++◌, ◌∷◌, [], if◌then◌else◌, IfOk, OnOk, length};
-ghost use Rattle.cs_model.specs.Changeset.{AreRecords, IsSection};
+ghost use Rattle.cs_model.specs.Changeset.{AreRecords, IsChangeset, IsSection};
 ghost use Rattle.cs_model.specs.PackedChanges.{change_of};
 ghost use Rattle.cs_model.specs.Sections.{LastHasColumns, with_changes};
 ghost use Rattle.cs_model.specs.Seen.{change_seen, field_seen, fields_seen};
@@ -10,7 +10,7 @@ ghost use Rattle.cs_invert.specs.Inverse.{inverse_section};
 
 use crate::laws::inverses_are_changesets;
 use cs_model::laws::changes_fit;
-use cs_model::{ChangeRef, Changeset, FieldRef, Op, RecordRef, SectionRef, Sections};
+use cs_model::{ChangeRef, Changeset, FieldRef, Op, RecordRef, SectionRef, SectionRefs, Sections};
 use std::alloc::{AllocError, Global};
 
 /// Returns the inverse of a changeset, as `sqlite3changeset_invert` does: an INSERT becomes a
@@ -20,9 +20,17 @@ use std::alloc::{AllocError, Global};
 pub fn invert(alloc: Global, changeset: &Changeset) -> Result<Changeset, AllocError>
     ensures { IfOk result (λ made. made ≡ inverse changeset.now) }
 {
+    inverted(alloc, changeset.iter())
+}
+
+/// The inverse of the changeset with these sections.
+pub(crate) fn inverted(alloc: Global, sections: SectionRefs) -> Result<Changeset, AllocError>
+    requires { IsChangeset sections }
+    ensures { IfOk result (λ made. made ≡ inverse sections.entry) }
+{
     inverses_are_changesets();
     let mut made = Sections::new(alloc);
-    for section in changeset.iter() {
+    for section in sections {
         push_inverses(alloc, &mut made, &section)?;
     }
     Ok(Changeset::of(made))
@@ -117,8 +125,8 @@ fn exchange<'a>(
     Ok(())
 }
 
-/// A column's old and new field, exchanged outside the key.
-pub(crate) fn exchanged_fields<'a>(
+// a column's old and new field, exchanged outside the key
+fn exchanged_fields<'a>(
     flag: u8,
     old: FieldRef<'a>,
     new: FieldRef<'a>,

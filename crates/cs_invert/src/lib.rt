@@ -5,7 +5,6 @@
 
 mod inverse;
 pub mod laws;
-mod placing;
 mod text;
 mod withdraw;
 

@@ -1,4 +1,2 @@
--- Lengths before a text is written, and texts written one after another.
-pub mod Held
-pub mod Lengths
+-- Texts written one after another.
 pub mod Laying

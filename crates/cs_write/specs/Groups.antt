@@ -1,4 +1,4 @@
--- The groups after each section is added, and the text of a group.
+-- The groups after each section is added, and groups of sections of one table.
 use Rattle.std.specs.Prelude.{ℕ, List, [], ◌∷◌, ◌++◌, length, ◌≡◌, if◌then◌else◌}
 use Rattle.std.specs.List.{AllByRecursion, flat_map}
 use Rattle.cs_model.specs.Section.{Section}
@@ -12,14 +12,6 @@ added [] section = (section.shape, section ∷ []) ∷ []
 added (group ∷ groups) section =
     if same_shape section.shape group.0 then (group.0, group.1 ++ section ∷ []) ∷ groups else group
     ∷ added groups section
-
--- a group's text, empty if it has no change
-abbrev pub group_text : Group → List ℕ
-group_text group = if has_changes (joined_section group) then section_text (joined_section group)
-    else []
-
-abbrev pub groups_text : List Group → List ℕ
-groups_text groups = flat_map group_text groups
 
 -- a section of a table with this number of columns
 abbrev pub HasColumns : ℕ → Section → Type 0

@@ -3,6 +3,5 @@ pub mod Own
 pub mod Text
 pub mod Groups
 pub mod Seen
-pub mod Lengths
 pub mod Buffer
 pub mod Pieces

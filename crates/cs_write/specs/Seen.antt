@@ -7,9 +7,5 @@ use Rattle.cs_model.specs.PackedChanges.{changes_bytes}
 use Rattle.cs_model.specs.Section.{Section}
 use Rattle.cs_write.specs.Canon.{Group}
 
--- the canonical bytes of the changes of sections, one section's after another's
-abbrev pub bodies : List Section → List ℕ
-bodies sections = changes_bytes (all_changes sections)
-
 abbrev pub seen : List (Shape × Vec Section) → List Group
 seen entries = map (λ entry. (entry.0, entry.1.items)) entries

@@ -35,7 +35,7 @@ pub fn add_section<'a>(
     Ok(())
 }
 
-/// Groups the sections of a changeset, owned or in place in its text. cs_invert uses it.
+/// Groups the sections of a changeset.
 pub fn groups_of<'a>(alloc: Global, sections: SectionRefs<'a>) -> Result<Groups<'a>, AllocError>
     ensures { IfOk result (λ groups. seen groups.entries ≡ by_shape [] sections.entry) }
 {
@@ -46,7 +46,7 @@ pub fn groups_of<'a>(alloc: Global, sections: SectionRefs<'a>) -> Result<Groups<
     Ok(groups)
 }
 
-/// Whether these sections have a change. cs_invert uses it.
+/// Whether these sections have a change.
 pub fn any_change(sections: &[SectionRef]) -> bool
     ensures { result ≡ nat_lt 0 (length (all_changes sections.now)) }
 {

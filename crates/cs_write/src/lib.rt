@@ -7,21 +7,17 @@
 //! limit, because it is no longer than the parsed one.
 #![tactic(auto)]
 
-mod field;
 mod form;
 mod groups;
 pub mod laws;
-mod length;
 mod pieces;
 mod placing;
 mod sink;
 mod text;
 
-pub use field::{fields_len, put_fields, put_operation};
 pub use form::{canonical, other_form};
-pub use groups::{Groups, add_section, any_change, groups_of};
-pub use length::{add_lengths, header_len};
+pub use groups::{Groups, add_section};
 pub use pieces::{WriteError, write_pieces};
-pub use placing::{put_bytes, put_header};
+pub use placing::put_bytes;
 pub use sink::{Sink, SinkFault};
-pub use text::{text_len, write, write_to};
+pub use text::{write, write_to};

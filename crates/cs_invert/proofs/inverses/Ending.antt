@@ -1,8 +1,7 @@
 -- The inverse of an UPDATE, one record of which has no more fields.
-use Rattle.std.proofs.Common.{◌≡◌, ◌∙◌, ◌++◌, ℕ, List, [], ◌∷◌, cond, eqb, refl, sym, ap}
+use Rattle.std.proofs.Common.{◌≡◌, ◌∙◌, ◌++◌, ℕ, List, [], ◌∷◌, refl, sym, ap}
 use Rattle.std.proofs.lemmas.List.{append-nil}
 use Rattle.cs_model.specs.declared.value.Field.{Field}
-use Rattle.cs_model.specs.Packed.{packed}
 use Rattle.cs_invert.specs.Inverse.{inverse_new, inverse_old}
 
 inverse_olds_before : (flags : List ℕ) (after : List Field) → inverse_old flags [] after ≡ []
@@ -45,25 +44,3 @@ pub inverse_news_end_after : (flags : List ℕ) (before after done total : List 
     → done ++ inverse_new flags before after ≡ total → done ≡ total
 inverse_news_end_after flags before after done total none e =
     inverse_done done _ total (ap (inverse_new flags before) none ∙ inverse_news_after flags before) e
-
--- ---- nothing is left of an exchanged record
-
-pub no_olds : (flags : List ℕ) (before after : List Field) → before ≡ [] → packed (inverse_old flags before after) ≡ []
-no_olds [] before after none = refl
-no_olds (flag ∷ flags) before after none = ap (λ b. packed (inverse_old (flag ∷ flags) b after)) none
-
-pub no_news : (flags : List ℕ) (before after : List Field) → after ≡ [] → packed (inverse_old flags before after) ≡ []
-no_news [] before after none = refl
-no_news (flag ∷ flags) [] after none = refl
-no_news (flag ∷ flags) (old ∷ before) after none =
-    ap (λ a. packed (inverse_old (flag ∷ flags) (old ∷ before) a)) none
-
--- the new record is the old one of the exchange the other way round
-pub exchanged_back : (flags : List ℕ) (before after : List Field) → inverse_old flags after before
-    ≡ inverse_new flags before after
-exchanged_back [] before after = refl
-exchanged_back (flag ∷ flags) [] [] = refl
-exchanged_back (flag ∷ flags) [] (new ∷ after) = refl
-exchanged_back (flag ∷ flags) (old ∷ before) [] = refl
-exchanged_back (flag ∷ flags) (old ∷ before) (new ∷ after) =
-    ap (λ (fs : List Field). cond (eqb flag 0) old new ∷ fs) (exchanged_back flags before after)

@@ -21,10 +21,10 @@ use Rattle.cs_write.specs.Canon.{Group, by_shape, joined_section, has_changes, c
 use Rattle.cs_model.specs.Packed.{packed}
 use Rattle.cs_model.specs.PackedChanges.{change_bytes, changes_bytes}
 use Rattle.cs_write.specs.Text.{header_text, section_text, sections_text, text_of}
-use Rattle.cs_write.specs.Groups.{added, group_text, groups_text}
+use Rattle.cs_write.specs.Groups.{added}
 use Rattle.cs_write.proofs.forms.Shapes.{shape_is}
 use Rattle.cs_write.proofs.forms.GroupLaws.{by_shape-more, none_grouped}
-use Rattle.cs_write.proofs.texts.TextLaws.{groups_are}
+use Rattle.cs_write.proofs.texts.TextLaws.{group_text, groups_are, groups_text}
 use Rattle.cs_write.proofs.texts.SpellLaws.{AreSpelled, text_spelled}
 
 abbrev NoLongerAreBytes : List ℕ → Type 0

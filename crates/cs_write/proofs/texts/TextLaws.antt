@@ -1,9 +1,16 @@
 -- Writing group by group gives the text of the canonical form.
-use Rattle.std.proofs.Common.{◌≡◌, Bool, true, false, cond, List, [], ◌∷◌, ◌++◌, refl, ap, ◌∙◌}
+use Rattle.std.proofs.Common.{◌≡◌, ℕ, Bool, true, false, cond, List, [], ◌∷◌, ◌++◌, refl, ap, ◌∙◌}
 use Rattle.cs_model.specs.Section.{Section}
 use Rattle.cs_write.specs.Canon.{Group, joined_section, has_changes, canon_of}
 use Rattle.cs_write.specs.Text.{section_text, sections_text}
-use Rattle.cs_write.specs.Groups.{group_text, groups_text}
+use Rattle.std.specs.List.{flat_map}
+
+-- a group's text, empty if it has no change
+abbrev pub group_text : Group → List ℕ
+group_text group = cond (has_changes (joined_section group)) (section_text (joined_section group)) []
+
+abbrev pub groups_text : List Group → List ℕ
+groups_text groups = flat_map group_text groups
 
 abbrev kept : Bool → Section → List Section → List Section
 kept b s rest = cond b (s ∷ rest) rest

@@ -4,7 +4,7 @@ use Rattle.cs_model.specs.declared.change.Change.{Change}
 use Rattle.cs_write.proofs.forms.Giving.{given_takes, giving_goes_on}
 use Rattle.cs_group.specs.Slots.{slot_seen}
 use Rattle.cs_group.specs.Table.{HasColumnsOf, slot_changes, slots_seen}
-use Rattle.cs_group.proofs.one_more.SlotBytes.{from_slot, slot_some}
+use Rattle.cs_group.proofs.one_more.SlotSteps.{from_slot, slot_some}
 use Rattle.cs_group.proofs.rows.Rows.push_to.Goals as goal
 use Rattle.cs_group.proofs.rows.Rows.push_to.Goals.{In-Some}
 

@@ -1,13 +1,9 @@
--- The bytes of the changes that slots hold, slot by slot.
-use Rattle.std.proofs.Common.{◌≡◌, ◌∙◌, ◌<◌, ◌+◌, ℕ, List, ◌∷◌, ◌++◌, length, drop, get_or, Option, Some, sym, ap}
+-- The changes that slots hold, slot by slot.
+use Rattle.std.proofs.Common.{◌≡◌, ◌∙◌, ◌<◌, ◌+◌, ℕ, List, ◌∷◌, length, drop, get_or, Option, Some, sym, ap}
 use Rattle.std.proofs.lemmas.List.{drop_more}
-use Rattle.cs_model.specs.PackedChanges.{change_bytes, changes_bytes}
 use Rattle.cs_group.specs.declared.slot.Slot.{Slot}
 use Rattle.cs_group.specs.Slots.{slot_seen}
 use Rattle.cs_group.specs.Table.{slot_changes, slots_seen}
-
-abbrev pub slots_bytes : List (Option Slot) → List ℕ
-slots_bytes slots = changes_bytes (slot_changes (slots_seen slots))
 
 -- a slot from a place on
 pub from_slot : (slots read : List (Option Slot)) (i : ℕ) (item : Option Slot) → read ≡ slots → i < length read
@@ -19,7 +15,3 @@ from_slot slots read i item same lt is =
 pub slot_some : (slots rest : List (Option Slot)) (item : Option Slot) (slot : Slot) → slots ≡ item ∷ rest
     → item ≡ Some slot → slot_changes (slots_seen slots) ≡ slot_seen slot ∷ slot_changes (slots_seen rest)
 slot_some slots rest item slot is some = ap (λ xs. slot_changes (slots_seen xs)) (is ∙ ap (λ x. x ∷ rest) some)
-
-pub slot_bytes_some : (slots rest : List (Option Slot)) (item : Option Slot) (slot : Slot) → slots ≡ item ∷ rest
-    → item ≡ Some slot → slots_bytes slots ≡ change_bytes (slot_seen slot) ++ slots_bytes rest
-slot_bytes_some slots rest item slot is some = ap slots_bytes (is ∙ ap (λ x. x ∷ rest) some)
