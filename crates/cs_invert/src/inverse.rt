@@ -29,7 +29,8 @@ pub(crate) fn inverted(alloc: Global, sections: SectionRefs) -> Result<Changeset
     ensures { IfOk result (λ made. made ≡ inverse sections.entry) }
 {
     inverses_are_changesets();
-    let mut made = Sections::new(alloc);
+    // an inverse is as long as its changeset
+    let mut made = Sections::with_capacity(alloc, sections.text().len())?;
     for section in sections {
         push_inverses(alloc, &mut made, &section)?;
     }

@@ -6,6 +6,7 @@ ghost use Rattle.cs_model.specs.PackedChanges.{AreCanonical, Fit, changes_bytes}
 ghost use Rattle.cs_model.specs.PackedChanges.{unpacked_changes};
 ghost use Rattle.cs_model.specs.Sections.{IsText, StartsSection, after_section, first_section};
 ghost use Rattle.cs_model.specs.Sections.{sections_by};
+ghost use Rattle.cs_model.specs.SectionText.{sections_text};
 
 use crate::at::At;
 use crate::change_ref::ChangeRefs;
@@ -179,6 +180,13 @@ impl<'a> SectionRefs<'a> {
             ats: self.ats,
             bytes: self.bytes,
         }
+    }
+
+    /// The canonical text of the remaining sections, one after another.
+    pub fn text(&self) -> &'a [u8]
+        ensures { result.now ≡ sections_text self.now }
+    {
+        self.bytes
     }
 
     /// The number of remaining sections.

@@ -56,6 +56,16 @@ impl Sections {
         }
     }
 
+    /// No sections, and room for a text of `len` bytes. Returns `AllocError` if memory runs out.
+    pub fn with_capacity(alloc: Global, len: usize) -> Result<Sections, AllocError>
+        ensures { IfOk result (λ made. made ≡ []) }
+    {
+        Ok(Sections {
+            text: Vec::with_capacity(alloc, len)?,
+            ats: Vec::new(alloc),
+        })
+    }
+
     /// The number of sections.
     pub fn len(&self) -> usize
         ensures { result ≡ length self.now }

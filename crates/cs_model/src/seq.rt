@@ -1,6 +1,6 @@
 //! `Seq`: a `Vec` that contracts see as a plain list.
 
-ghost use Rattle.std.specs.Prelude.{◌≡◌, ◌++◌, IfOk, OnOk, OnErr, length, ◌==◌};
+ghost use Rattle.std.specs.Prelude.{◌≡◌, IfOk, length, ◌==◌};
 ghost use Rattle.std.specs.Cmp.{on_equiv, on_total, on_po, on_per};
 ghost use Rattle.std.specs.Cmp.Lexicographic.{pointwise, slice_cmp, slice_partial_cmp, lists_per};
 ghost use Rattle.std.specs.Cmp.Lexicographic.{lists_equiv, lists_po, lists_total, lists_agrees};
@@ -14,7 +14,7 @@ use std::hash::{Hash, Hasher};
 use std::marker::Model;
 use std::ops::DerefSlice;
 
-/// A list of values. Conversions from and to a `Vec` do not allocate.
+/// A list of values.
 #[derive(Debug, Drop)]
 pub struct Seq<T> {
     items: Vec<T>,
@@ -39,14 +39,6 @@ impl<T> Seq<T> {
         Seq { items }
     }
 
-    /// Returns the list as a `Vec`, without a copy.
-    pub fn into_vec(self) -> Vec<T>
-        ensures { result.items ≡ self }
-    {
-        let Seq { items } = self;
-        items
-    }
-
     /// The number of values.
     pub fn len(&self) -> usize
         ensures { result ≡ length self.now }
@@ -62,31 +54,12 @@ impl<T> Seq<T> {
     }
 }
 
-impl<T: Drop> Seq<T> {
-    /// Moves the values of another list to the end. An `Err` does not change this list.
-    pub fn append(&mut self, others: Seq<T>) -> Result<(), AllocError>
-        ensures ok { OnOk result (self.new ≡ self.old ++ others) }
-        ensures err { OnErr result (self.new ≡ self.old) }
-    {
-        let mut others = others.into_vec();
-        self.items.append(&mut others)
-    }
-}
-
 impl<T: Copy> Seq<T> {
     /// A list of copies of these values.
     pub fn from_slice(alloc: Global, values: &[T]) -> Result<Seq<T>, AllocError>
         ensures { IfOk result (λ copy. copy ≡ values.now) }
     {
         Ok(Seq::from_vec(Vec::from_slice(alloc, values)?))
-    }
-
-    /// Appends copies of these values. An `Err` does not change the list.
-    pub fn extend_from_slice(&mut self, values: &[T]) -> Result<(), AllocError>
-        ensures ok { OnOk result (self.new ≡ self.old ++ values.now) }
-        ensures err { OnErr result (self.new ≡ self.old) }
-    {
-        self.items.extend_from_slice(values)
     }
 }
 

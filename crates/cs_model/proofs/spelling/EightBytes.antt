@@ -1,8 +1,7 @@
 -- Eight bytes are those of the number that they encode.
-use Rattle.std.proofs.Common.{◌≡◌, ℕ, zero, suc, ◌^◌, ◌<◌, List, [], ◌∷◌, length, take, Fits, FitsSigned, refl, ap, ◌∙◌}
+use Rattle.std.proofs.Common.{◌≡◌, ℕ, zero, suc, ◌^◌, ◌<◌, List, [], ◌∷◌, length, take, refl, ap, ◌∙◌}
 use Rattle.std.proofs.Common.{arith}
 use Rattle.std.specs.Int.{w64, from_be_bytes, to_be_bytes, cast_signed, cast_unsigned}
-use Rattle.std.proofs.Math.Facts.{sfits_to_z}
 use Rattle.std.proofs.lemmas.Int.{of_z-to_z}
 use Rattle.std.proofs.lemmas.Nat.{be_bytes_8}
 use Rattle.cs_model.specs.Bytes.{AreBytes}
@@ -15,9 +14,6 @@ take_bytes (suc n) (b ∷ bytes) are (suc i) = take_bytes n bytes (λ j. are (su
 
 number_below : (bytes : List ℕ) → AreBytes bytes → from_be_bytes w64 bytes < 2 ^ 64
 number_below bytes are = omega (arith, are 0, are 1, are 2, are 3, are 4, are 5, are 6, are 7)
-
-signed_fits : (n : ℕ) → n < 2 ^ 64 → FitsSigned w64 (cast_signed w64 n)
-signed_fits n below = let f : Fits w64 n = omega arith in sfits_to_z f
 
 -- the eight bytes after a type byte
 pub eight_bytes : (bytes rest : List ℕ) (kind : ℕ) → bytes ≡ kind ∷ rest → AreBytes bytes → AreBytes (take 8 rest)
