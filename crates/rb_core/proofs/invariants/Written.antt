@@ -107,11 +107,11 @@ lent_end old now d s delivery e found same is of some sub read =
       here = slice_get_read old.endpoints _ s e refl (subst (λ n. n < length old.endpoints) (sym sub) of_it.0) read;
     }
 
--- an accept, and a fall while it accepts, answer what the end answers
 end_found : (old : State) (d s : ℕ) (delivery : Delivery) (e : Endpoint) → LentEnd old d s delivery e
     → slice_get old.endpoints delivery.sub ≡ Some e
 end_found old d s delivery e lent = subst (λ n. slice_get old.endpoints n ≡ Some e) lent.sub lent.here
 
+-- an accept, and a fall while it accepts, answer what the end answers
 pub accept_found : (old : State) (d s : ℕ) (delivery : Delivery) (e : Endpoint) → LentEnd old d s delivery e
     → outcome.accepted old d ≡ accepted_by old s (accept e old.sequence delivery)
 accept_found old d s delivery e lent =
