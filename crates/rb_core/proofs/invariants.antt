@@ -2,7 +2,6 @@
 pub mod Numbers
 pub mod Marks
 pub mod Written
-pub mod WrittenFalls
 pub mod DeskLaws
 pub mod Worlds
 pub mod WorldDeliveries

@@ -155,16 +155,18 @@ crashed_for old kept (Some delivery) =
 abbrev pub crashed : State → ℕ → Bool → Reply × State
 crashed old d kept = crashed_for old kept (delivery_of old d)
 
--- Ack: as the desk does, with the delivery's link and its endpoint's cursor.
-abbrev pub acked_by_desk : State → Result ℕ DeskRefusal → Picture → Reply × State
-acked_by_desk old (Ok floor) picture =
-    (reply.Floor floor, record old { desk = picture; steps = suc old.steps })
-acked_by_desk old (Err why) picture = refused old (refusal.Desk why)
+-- A call of the desk that nothing else follows: the reply is what the desk answers.
+abbrev pub by_desk : {A : Type 0} → (A → Reply) → State → Result A DeskRefusal → Picture
+    → Reply × State
+by_desk given old (Ok answer) picture =
+    (given answer, record old { desk = picture; steps = suc old.steps })
+by_desk given old (Err why) picture = refused old (refusal.Desk why)
 
+-- Ack: as the desk does, with the delivery's link and its endpoint's cursor.
 abbrev pub acked_at : State → Delivery → Option Endpoint → Reply × State
 acked_at old delivery None = refused old refusal.NoDelivery
 acked_at old delivery (Some end) =
-    acked_by_desk old
+    by_desk reply.Floor old
     (answer_after old.steps
     (desk.ack old.desk delivery.sub delivery.link delivery.number end.cursor).0)
     (desk.ack old.desk delivery.sub delivery.link delivery.number end.cursor).1
@@ -177,15 +179,10 @@ abbrev pub acked : State → ℕ → Reply × State
 acked old d = acked_for old (delivery_of old d)
 
 -- Nack: as the desk does, with the delivery's link.
-abbrev pub nacked_by_desk : State → Result ⊤ DeskRefusal → Picture → Reply × State
-nacked_by_desk old (Ok done) picture =
-    (reply.Returned, record old { desk = picture; steps = suc old.steps })
-nacked_by_desk old (Err why) picture = refused old (refusal.Desk why)
-
 abbrev pub nacked_for : State → Option Delivery → Reply × State
 nacked_for old None = refused old refusal.NoDelivery
 nacked_for old (Some delivery) =
-    nacked_by_desk old
+    by_desk (λ done. reply.Returned) old
     (answer_after old.steps (desk.nack old.desk delivery.sub delivery.link delivery.number).0)
     (desk.nack old.desk delivery.sub delivery.link delivery.number).1
 
@@ -193,15 +190,10 @@ abbrev pub nacked : State → ℕ → Reply × State
 nacked old d = nacked_for old (delivery_of old d)
 
 -- Nack opened: as the desk does, with the delivery's link.
-abbrev pub opened_by_desk : State → Result ℕ DeskRefusal → Picture → Reply × State
-opened_by_desk old (Ok count) picture =
-    (reply.Opened count, record old { desk = picture; steps = suc old.steps })
-opened_by_desk old (Err why) picture = refused old (refusal.Desk why)
-
 abbrev pub opened_for : State → Option Delivery → Reply × State
 opened_for old None = refused old refusal.NoDelivery
 opened_for old (Some delivery) =
-    opened_by_desk old
+    by_desk reply.Opened old
     (answer_after old.steps
     (desk.nack_opened old.desk delivery.sub delivery.link delivery.number).0)
     (desk.nack_opened old.desk delivery.sub delivery.link delivery.number).1
@@ -210,14 +202,9 @@ abbrev pub nacked_opened : State → ℕ → Reply × State
 nacked_opened old d = opened_for old (delivery_of old d)
 
 -- Expire: as the desk does.
-abbrev pub expired_by_desk : State → Result ℕ DeskRefusal → Picture → Reply × State
-expired_by_desk old (Ok count) picture =
-    (reply.Expired count, record old { desk = picture; steps = suc old.steps })
-expired_by_desk old (Err why) picture = refused old (refusal.Desk why)
-
 abbrev pub expired : State → ℕ → Reply × State
-expired old now = expired_by_desk old (answer_after old.steps (Ok (desk.expire old.desk now).0))
-    (desk.expire old.desk now).1
+expired old now = by_desk reply.Expired old
+    (answer_after old.steps (Ok (desk.expire old.desk now).0)) (desk.expire old.desk now).1
 
 -- Reconnect: as the desk does; the endpoint continues under the new link.
 abbrev pub reconnected_with : State → ℕ → Endpoint → Result ℕ DeskRefusal → Picture → Reply × State

@@ -127,6 +127,18 @@ forks_make pass v n is waiting views kept at =
 
 -- ---- an item is sent
 
+-- what a publisher sent that has ended stays, where another one sends
+still_ended : (h : History) (pass p : ℕ) (x : Item) → h.pass_of p ≡ Some pass → x.publisher ≡ p
+    → (ended : List (ℕ × List Item)) → AllByRecursion (HasEnded h) ended
+    → AllByRecursion (HasEnded (record h { sent = h.sent ++ x ∷ [] })) ended
+still_ended h pass p x mine is ended =
+    all_weaker (HasEnded h) (HasEnded (record h { sent = h.sent ++ x ∷ [] })) ended
+    (λ e ends. (
+      ends.0,
+      ends.1,
+      ends.2 ∙ sym (own_other e.0 h.sent x (λ same. absurd (cc (ends.0, mine, same, is)))),
+    ))
+
 push_others : (h : History) (pass p : ℕ) (x : Item) → h.pass_of p ≡ Some pass → p < h.made → x.publisher ≡ p → (j : ℕ)
     (u : Known) → j ≢ pass → IsSo h j u → IsSo (record h { sent = h.sent ++ x ∷ [] }) j u
 push_others h pass p x mine below is j Starts isnt was = absurd (omega (arith, below, was.2))
@@ -136,30 +148,10 @@ push_others h pass p x mine below is j (Sends q items) isnt was = (
   was.1 ∙ sym (own_other q h.sent x (λ e. isnt (cc (was.0, mine, e, is)))),
   was.2,
 )
-push_others h pass p x mine below is j (Pulls items ended) isnt was = (
-  was.0,
-  was.1,
-  all_weaker (HasEnded h) (HasEnded (record h { sent = h.sent ++ x ∷ [] })) ended
-      (λ e ends. (
-        ends.0,
-        ends.1,
-        ends.2 ∙ sym (own_other e.0 h.sent x (λ same. absurd (cc (ends.0, mine, same, is)))),
-      )) was.2,
-  was.3,
-)
-push_others h pass p x mine below is j (Ends items ended n) isnt was = (
-  was.0,
-  was.1,
-  all_weaker (HasEnded h) (HasEnded (record h { sent = h.sent ++ x ∷ [] })) ended
-      (λ e ends. (
-        ends.0,
-        ends.1,
-        ends.2 ∙ sym (own_other e.0 h.sent x (λ same. absurd (cc (ends.0, mine, same, is)))),
-      )) was.2,
-  was.3,
-  was.4,
-  was.5,
-)
+push_others h pass p x mine below is j (Pulls items ended) isnt was =
+    (was.0, was.1, still_ended h pass p x mine is ended was.2, was.3)
+push_others h pass p x mine below is j (Ends items ended n) isnt was =
+    (was.0, was.1, still_ended h pass p x mine is ended was.2, was.3, was.4, was.5)
 push_others h pass p x mine below is j Spent isnt was = tt
 
 numbered_after : (h : History) (p : ℕ) (x : Item) → x.publisher ≡ p → x.own ≡ suc (length (own_of p h.sent))

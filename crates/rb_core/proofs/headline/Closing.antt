@@ -1,5 +1,5 @@
 -- Nothing is placed once the sequence is closed, and a closed subscription accepts nothing more.
-use Rattle.std.proofs.Common.{◌≡◌, ℕ, true, inl, inr, List, Option, Some, None, refl, sym}
+use Rattle.std.proofs.Common.{◌≡◌, ℕ, Bool, true, inl, inr, List, Option, Some, None, refl, sym}
 use Rattle.std.proofs.Common.{subst, ◌∙◌}
 use Rattle.std.specs.Prelude.{slice_get, slice_set}
 use Rattle.std.proofs.lemmas.Bool.Decides.{eqb_tells}
@@ -12,57 +12,48 @@ use Rattle.rb_core.proofs.headline.Moving.{get_push, MovingKeeps, crash_leaves, 
 
 -- ---- the sequence
 
-record IsClosed (last : ℕ) (sequence : List Entry) (world : World) : Type 0 where
-  closed : world.closing ≡ Some last
-  same : world.sequence ≡ sequence
+-- a world that differs from this one in other parts is closed too, by computing
+abbrev IsClosed : ℕ → List Entry → World → Type 0
+IsClosed last sequence world = (world.closing ≡ Some last) × (world.sequence ≡ sequence)
 
 not_open : (last : ℕ) (o : Option ℕ) → o ≡ Some last → o ≡ None → ⊥
 not_open last o some none = absurd (cc (sym some ∙ none))
 
 closed_kept : (last : ℕ) (sequence : List Entry) → MovingKeeps (IsClosed last sequence)
 closed_kept last sequence = record {
-  adds_publisher = λ old new move h. subst (IsClosed last sequence) (sym move)
-      (record { closed = h.closed; same = h.same });
-  streams = λ old new move h. subst (IsClosed last sequence) (sym move.kept)
-      (record { closed = h.closed; same = h.same });
-  sends = λ old new move h. subst (IsClosed last sequence) (sym move.kept)
-      (record { closed = h.closed; same = h.same });
-  pulls = λ old new move h. subst (IsClosed last sequence) (sym move.kept)
-      (record { closed = h.closed; same = h.same });
-  places = λ old new move h. absurd (not_open last old.closing h.closed move.not_closed);
-  closes = λ old new move h. absurd (not_open last old.closing h.closed move.not_closed);
-  subscribes = λ old new move h. subst (IsClosed last sequence) (sym move.kept)
-      (record { closed = h.closed; same = h.same });
-  delivers = λ old new move h. subst (IsClosed last sequence) (sym move.kept)
-      (record { closed = h.closed; same = h.same });
-  accepts = λ old new move h. subst (IsClosed last sequence) (sym move.kept)
-      (record { closed = h.closed; same = h.same });
-  reconnects = λ old new move h. subst (IsClosed last sequence) (sym move.kept)
-      (record { closed = h.closed; same = h.same });
-  unsubscribes = λ old new move h. subst (IsClosed last sequence) (sym move.kept)
-      (record { closed = h.closed; same = h.same });
-  withdraws = λ old new move h. subst (IsClosed last sequence) (sym move.kept)
-      (record { closed = h.closed; same = h.same });
-  crashes = λ old new move h. crash_leaves (IsClosed last sequence) old new move
-      (record { closed = h.closed; same = h.same }) (record { closed = h.closed; same = h.same });
-  resumes = λ old new move h. subst (IsClosed last sequence) (sym move.kept)
-      (record { closed = h.closed; same = h.same });
+  adds_publisher = λ old new move h. subst (IsClosed last sequence) (sym move) h;
+  streams = λ old new move h. subst (IsClosed last sequence) (sym move.kept) h;
+  sends = λ old new move h. subst (IsClosed last sequence) (sym move.kept) h;
+  pulls = λ old new move h. subst (IsClosed last sequence) (sym move.kept) h;
+  places = λ old new move h. absurd (not_open last old.closing h.0 move.not_closed);
+  closes = λ old new move h. absurd (not_open last old.closing h.0 move.not_closed);
+  subscribes = λ old new move h. subst (IsClosed last sequence) (sym move.kept) h;
+  delivers = λ old new move h. subst (IsClosed last sequence) (sym move.kept) h;
+  accepts = λ old new move h. subst (IsClosed last sequence) (sym move.kept) h;
+  reconnects = λ old new move h. subst (IsClosed last sequence) (sym move.kept) h;
+  unsubscribes = λ old new move h. subst (IsClosed last sequence) (sym move.kept) h;
+  withdraws = λ old new move h. subst (IsClosed last sequence) (sym move.kept) h;
+  crashes = λ old new move h. crash_leaves (IsClosed last sequence) old new move h h;
+  resumes = λ old new move h. subst (IsClosed last sequence) (sym move.kept) h;
 }
 
 pub nothing_placed : (old : World) (mids : List World) (new : World) (last : ℕ) → old.closing ≡ Some last
     → Leads old mids new → (new.closing ≡ Some last) × (new.sequence ≡ old.sequence)
 nothing_placed old mids new last closed leads =
-    let h = kept_through (IsClosed last old.sequence) (closed_kept last old.sequence) old mids new leads
-    (record { closed = closed; same = refl }) in
-    (h.closed, h.same)
+    kept_through (IsClosed last old.sequence) (closed_kept last old.sequence) old mids new leads (closed, refl)
 
 -- ---- a subscription
 
--- one that is closed, and has these entries and tables
-record HasLeft (accepted : List Entry) (rows : tables.TableState) (q : Subscriber) : Type 0 where
-  closed : q.closed ≡ true
-  accepted_same : q.accepted ≡ accepted
-  tables_same : q.tables ≡ rows
+record LeftParts (accepted : List Entry) (rows : tables.TableState) (mark : Bool) (entries : List Entry)
+    (now : tables.TableState) : Type 0 where
+  closed : mark ≡ true
+  accepted_same : entries ≡ accepted
+  tables_same : now ≡ rows
+
+-- one that is closed, and has these entries and tables; one that differs from it in other parts has them too, by
+-- computing
+abbrev HasLeft : List Entry → tables.TableState → Subscriber → Type 0
+HasLeft accepted rows q = LeftParts accepted rows q.closed q.accepted q.tables
 
 abbrev Left : ℕ → List Entry → tables.TableState → World → Type 0
 Left s accepted rows world = (q : Subscriber) × (slice_get world.subscribers s ≡ Some q) × HasLeft accepted rows q
@@ -87,46 +78,38 @@ becomes s accepted rows subs at q r found stays x here left =
 
 left_kept : (s : ℕ) (accepted : List Entry) (rows : tables.TableState) → MovingKeeps (Left s accepted rows)
 left_kept s accepted rows = record {
-  adds_publisher = λ old new move h. subst (Left s accepted rows) (sym move) (h.0, h.1, h.2);
-  streams = λ old new move h. subst (Left s accepted rows) (sym move.kept) (h.0, h.1, h.2);
-  sends = λ old new move h. subst (Left s accepted rows) (sym move.kept) (h.0, h.1, h.2);
-  pulls = λ old new move h. subst (Left s accepted rows) (sym move.kept) (h.0, h.1, h.2);
-  places = λ old new move h. subst (Left s accepted rows) (sym move.kept) (h.0, h.1, h.2);
-  closes = λ old new move h. subst (Left s accepted rows) (sym move.kept) (h.0, h.1, h.2);
+  adds_publisher = λ old new move h. subst (Left s accepted rows) (sym move) h;
+  streams = λ old new move h. subst (Left s accepted rows) (sym move.kept) h;
+  sends = λ old new move h. subst (Left s accepted rows) (sym move.kept) h;
+  pulls = λ old new move h. subst (Left s accepted rows) (sym move.kept) h;
+  places = λ old new move h. subst (Left s accepted rows) (sym move.kept) h;
+  closes = λ old new move h. subst (Left s accepted rows) (sym move.kept) h;
   subscribes = λ old new move h. subst (Left s accepted rows) (sym move.kept)
       (h.0, get_push old.subscribers _ h.0 s h.1, h.2);
   delivers = λ old new move h.
       subst (Left s accepted rows) (sym move.kept)
-      (becomes s accepted rows old.subscribers move.s move.subscriber _ move.found
-      (λ left. record { closed = left.closed; accepted_same = left.accepted_same; tables_same = left.tables_same })
-      h.0 h.1 h.2);
+      (becomes s accepted rows old.subscribers move.s move.subscriber _ move.found (λ left. left) h.0 h.1 h.2);
   accepts = λ old new move h.
       subst (Left s accepted rows) (sym move.kept)
       (becomes s accepted rows old.subscribers move.s move.subscriber _ move.found
       (λ left. absurd (cc (sym left.closed ∙ move.accepts.not_closed))) h.0 h.1 h.2);
   reconnects = λ old new move h.
       subst (Left s accepted rows) (sym move.kept)
-      (becomes s accepted rows old.subscribers move.s move.subscriber _ move.found
-      (λ left. record { closed = left.closed; accepted_same = left.accepted_same; tables_same = left.tables_same })
-      h.0 h.1 h.2);
+      (becomes s accepted rows old.subscribers move.s move.subscriber _ move.found (λ left. left) h.0 h.1 h.2);
   unsubscribes = λ old new move h.
       subst (Left s accepted rows) (sym move.kept)
       (becomes s accepted rows old.subscribers move.s move.subscriber _ move.found
       (λ left. record { closed = refl; accepted_same = left.accepted_same; tables_same = left.tables_same }) h.0 h.1
       h.2);
-  withdraws = λ old new move h. subst (Left s accepted rows) (sym move.kept) (h.0, h.1, h.2);
+  withdraws = λ old new move h. subst (Left s accepted rows) (sym move.kept) h;
   crashes = λ old new move h.
       crash_leaves (Left s accepted rows) old new move
-      (becomes s accepted rows old.subscribers move.s move.subscriber _ move.found
-      (λ left. record { closed = left.closed; accepted_same = left.accepted_same; tables_same = left.tables_same })
-      h.0 h.1 h.2)
+      (becomes s accepted rows old.subscribers move.s move.subscriber _ move.found (λ left. left) h.0 h.1 h.2)
       (becomes s accepted rows old.subscribers move.s move.subscriber _ move.found
       (λ left. absurd (cc (sym left.closed ∙ move.would_accept.not_closed))) h.0 h.1 h.2);
   resumes = λ old new move h.
       subst (Left s accepted rows) (sym move.kept)
-      (becomes s accepted rows old.subscribers move.s move.subscriber _ move.found
-      (λ left. record { closed = left.closed; accepted_same = left.accepted_same; tables_same = left.tables_same })
-      h.0 h.1 h.2);
+      (becomes s accepted rows old.subscribers move.s move.subscriber _ move.found (λ left. left) h.0 h.1 h.2);
 }
 
 pub nothing_accepted : (old : World) (mids : List World) (new : World) (s : ℕ) (q : Subscriber)

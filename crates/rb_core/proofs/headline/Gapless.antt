@@ -20,10 +20,14 @@ use Rattle.rb_core.proofs.headline.Moving.{all_set, all_get, all_moved_in, all_m
 abbrev GaplessIsPlaced : List Entry → Delivery → Type 0
 GaplessIsPlaced sequence delivery = delivery.last ≤ length sequence
 
-record IsRun (sequence : List Entry) (q : Subscriber) : Type 0 where
-  run : q.accepted ≡ part sequence q.start (length q.accepted)
-  placed : cursor q ≤ length sequence
-  deliveries : AllByRecursion (GaplessIsPlaced sequence) q.deliveries
+record RunOf (sequence : List Entry) (after : ℕ) (accepted : List Entry) (made : List Delivery) : Type 0 where
+  run : accepted ≡ part sequence after (length accepted)
+  placed : after + length accepted ≤ length sequence
+  deliveries : AllByRecursion (GaplessIsPlaced sequence) made
+
+-- a subscription that differs from this one in other parts has a run too, by computing
+abbrev IsRun : List Entry → Subscriber → Type 0
+IsRun sequence q = RunOf sequence q.start q.accepted q.deliveries
 
 abbrev AreRuns : World → Type 0
 AreRuns world = AllByRecursion (IsRun world.sequence) world.subscribers
@@ -88,11 +92,11 @@ accepts_run sequence q delivery new h some placed start deliveries accepted =
 -- ---- moves
 
 -- one subscription becomes another
-gapless_becomes : (old new : World) (s : ℕ) (q r : Subscriber) → AreRuns old → slice_get old.subscribers s ≡ Some q
-    → (IsRun old.sequence q → IsRun old.sequence r) → new ≡ with_subscriber old s r → AreRuns new
-gapless_becomes old new s q r runs found same kept =
-    subst AreRuns (sym kept) (all_set (IsRun old.sequence) old.subscribers s r runs
-    (same (all_get (IsRun old.sequence) old.subscribers s q runs found)))
+gapless_becomes : (old : World) (s : ℕ) (q r : Subscriber) → AreRuns old → slice_get old.subscribers s ≡ Some q
+    → (IsRun old.sequence q → IsRun old.sequence r) → AreRuns (with_subscriber old s r)
+gapless_becomes old s q r runs found same =
+    all_set (IsRun old.sequence) old.subscribers s r runs
+    (same (all_get (IsRun old.sequence) old.subscribers s q runs found))
 
 runs_kept : MovingKeeps AreRuns
 runs_kept = record {
@@ -121,62 +125,47 @@ runs_kept = record {
       (all_push (IsRun old.sequence) old.subscribers q runs
       (record { run = refl; placed = omega (arith, move.placed); deliveries = tt }));
   delivers = λ old new move runs.
-      gapless_becomes old new move.s move.subscriber
-      (record move.subscriber { deliveries = move.subscriber.deliveries ++ move.delivery ∷ [] }) runs move.found
+      let q = move.subscriber in
+      subst AreRuns (sym move.kept)
+      (gapless_becomes old move.s q (record q { deliveries = q.deliveries ++ move.delivery ∷ [] }) runs move.found
       (λ h. record {
         run = h.run;
         placed = h.placed;
-        deliveries = all_push (GaplessIsPlaced old.sequence)
-            move.subscriber.deliveries move.delivery h.deliveries move.placed;
-      }) move.kept;
+        deliveries = all_push (GaplessIsPlaced old.sequence) q.deliveries move.delivery h.deliveries move.placed;
+      }));
   accepts = λ old new move runs.
       let q = move.subscriber in
-      gapless_becomes old new move.s q
-      (record q {
+      let r : Subscriber = record q {
         accepted = q.accepted ++ brought old.sequence move.delivery;
         tables = move.end.tables;
-      }) runs move.found
-      (λ h. accepts_run old.sequence q move.delivery
-      (record q {
-        accepted = q.accepted ++ brought old.sequence move.delivery;
-        tables = move.end.tables;
-      }) h move.accepts.some
-      (all_moved_in (GaplessIsPlaced old.sequence) q.deliveries move.delivery h.deliveries move.offered) refl refl
-      (ap (λ es. q.accepted ++ es) (brought_after old.sequence move.delivery (cursor q) move.accepts.next)))
-      move.kept;
-  reconnects = λ old new move runs.
-      let q = move.subscriber in
-      let r : Subscriber = record q { link = move.link } in
+      } in
       subst AreRuns (sym move.kept)
-      (all_set (IsRun old.sequence) old.subscribers move.s r runs
-      (let h = all_get (IsRun old.sequence) old.subscribers move.s q runs move.found in
-      record { run = h.run; placed = h.placed; deliveries = h.deliveries }));
-  unsubscribes = λ old new move runs.
-      gapless_becomes old new move.s move.subscriber (record move.subscriber { closed = true }) runs move.found
-      (λ h. record { run = h.run; placed = h.placed; deliveries = h.deliveries }) move.kept;
+      (gapless_becomes old move.s q r runs move.found
+      (λ h. accepts_run old.sequence q move.delivery r h move.accepts.some
+      (all_moved_in (GaplessIsPlaced old.sequence) q.deliveries move.delivery h.deliveries move.offered) refl refl
+      (ap (λ es. q.accepted ++ es) (brought_after old.sequence move.delivery (cursor q) move.accepts.next))));
+  reconnects = λ old new move runs. subst AreRuns (sym move.kept)
+      (gapless_becomes old move.s move.subscriber (record move.subscriber { link = move.link }) runs move.found (λ h. h));
+  unsubscribes = λ old new move runs. subst AreRuns (sym move.kept)
+      (gapless_becomes old move.s move.subscriber (record move.subscriber { closed = true }) runs move.found (λ h. h));
   withdraws = λ old new move runs. subst AreRuns (sym move.kept) runs;
   crashes = λ old new move runs.
       let q = move.subscriber in
-      let mark : Subscriber = record q { fallen = true } in
       let both : Subscriber = record q {
         accepted = q.accepted ++ brought old.sequence move.delivery;
         tables = move.end.tables;
         fallen = true;
       } in
       crash_leaves AreRuns old new move
-      (gapless_becomes old (with_subscriber old move.s mark) move.s q mark runs move.found
-      (λ h. record { run = h.run; placed = h.placed; deliveries = h.deliveries }) refl)
-      (gapless_becomes old (with_subscriber old move.s both) move.s q both runs move.found
+      (gapless_becomes old move.s q (record q { fallen = true }) runs move.found (λ h. h))
+      (gapless_becomes old move.s q both runs move.found
       (λ h. accepts_run old.sequence q move.delivery both h move.would_accept.some
       (all_moved_in (GaplessIsPlaced old.sequence) q.deliveries move.delivery h.deliveries move.offered) refl refl
-      (ap (λ es. q.accepted ++ es) (brought_after old.sequence move.delivery (cursor q) move.would_accept.next))) refl);
+      (ap (λ es. q.accepted ++ es) (brought_after old.sequence move.delivery (cursor q) move.would_accept.next))));
   resumes = λ old new move runs.
       let q = move.subscriber in
-      let r : Subscriber = record q { link = move.link; fallen = false } in
       subst AreRuns (sym move.kept)
-      (all_set (IsRun old.sequence) old.subscribers move.s r runs
-      (let h = all_get (IsRun old.sequence) old.subscribers move.s q runs move.found in
-      record { run = h.run; placed = h.placed; deliveries = h.deliveries }));
+      (gapless_becomes old move.s q (record q { link = move.link; fallen = false }) runs move.found (λ h. h));
 }
 
 pub gapless : (mids : List World) (new : World) (s : ℕ) (q : Subscriber) → Leads world_begun mids new

@@ -14,10 +14,11 @@ use Rattle.rb_subscriber.specs.Accept.{accept, AcceptsDelivery, crashed_as, fall
 use Rattle.rb_subscriber.specs.declared.refusal.AcceptRefusal.{AcceptRefusal}
 use Rattle.rb_subscriber.specs.Endpoint.{Endpoint}
 use Rattle.rb_core.specs.declared.reply.Reply.{Reply}
+use Rattle.rb_core.specs.declared.reply.Reply.TheVariants as reply
 use Rattle.rb_core.specs.Outcome.{accepted_by, accepted_at, accepted_as, crashed_by, crashed_at, crashed_for}
-use Rattle.rb_core.specs.Outcome.{resumed_with, resumed_for, expired_by_desk, acked_by_desk, acked_at, acked_for}
-use Rattle.rb_core.specs.Outcome.{nacked_by_desk, nacked_for, reconnected_with, reconnected_for, unsubscribed_with}
-use Rattle.rb_core.specs.Outcome.{unsubscribed_for, with_endpoint, opened_by_desk, opened_for}
+use Rattle.rb_core.specs.Outcome.{resumed_with, resumed_for, by_desk, acked_at, acked_for}
+use Rattle.rb_core.specs.Outcome.{nacked_for, reconnected_with, reconnected_for, unsubscribed_with}
+use Rattle.rb_core.specs.Outcome.{unsubscribed_for, with_endpoint, opened_for}
 use Rattle.rb_core.specs.Outcome as outcome
 use Rattle.rb_core.specs.State.{State, member_of_end, IsWorld}
 use Rattle.rb_core.proofs.invariants.DeskLaws.{KeepsLimits, KeepsPictures, DeskShows}
@@ -94,18 +95,20 @@ crashed_for_keeps steps old kept None good = good
 crashed_for_keeps steps old kept (Some delivery) good =
     crashed_at_keeps steps old delivery kept (slice_get old.endpoints delivery.sub) refl good
 
-settled_keeps : (old : State) (r : Result ℕ DeskRefusal) (new : Picture) → IsWorld old → KeepsLimits old.desk new
-    → ((floor : ℕ) → r ≡ Ok floor → outline_of new ≡ outline_of old.desk) → IsWorld (acked_by_desk old r new).1
-settled_keeps old (Ok floor) new good picture same =
-    any_steps _ (suc old.steps) (same_outline old new good picture (same floor refl))
-settled_keeps old (Err why) new good picture same = good
+-- a call that the desk's outline doesn't show
+by_desk_keeps : {A : Type 0} (given : A → Reply) (old : State) (r : Result A DeskRefusal) (new : Picture) → IsWorld old
+    → KeepsLimits old.desk new → ((answer : A) → r ≡ Ok answer → outline_of new ≡ outline_of old.desk)
+    → IsWorld (by_desk given old r new).1
+by_desk_keeps given old (Ok answer) new good picture same =
+    any_steps _ (suc old.steps) (same_outline old new good picture (same answer refl))
+by_desk_keeps given old (Err why) new good picture same = good
 
 acked_at_keeps : KeepsPictures → DeskShows → (old : State) (delivery : Delivery) (found : Option Endpoint) → IsWorld old
     → IsWorld (acked_at old delivery found).1
 acked_at_keeps keeps shows old delivery None good = good
 acked_at_keeps keeps shows old delivery (Some end) good =
     let call = desk.ack old.desk delivery.sub delivery.link delivery.number end.cursor in
-    settled_keeps old (answer_after old.steps call.0) call.1 good
+    by_desk_keeps reply.Floor old (answer_after old.steps call.0) call.1 good
     (ack_keeps keeps old.desk delivery.sub delivery.link delivery.number end.cursor good.picture)
     (λ floor is. shows.acks old.desk delivery.sub delivery.link delivery.number end.cursor floor call.1
     (call_after old.steps call floor is))
@@ -116,49 +119,32 @@ acked_keeps keeps shows old None good = good
 acked_keeps keeps shows old (Some delivery) good =
     acked_at_keeps keeps shows old delivery (slice_get old.endpoints delivery.sub) good
 
-returned_keeps : (old : State) (r : Result ⊤ DeskRefusal) (new : Picture) → IsWorld old → KeepsLimits old.desk new
-    → (r ≡ Ok tt → outline_of new ≡ outline_of old.desk) → IsWorld (nacked_by_desk old r new).1
-returned_keeps old (Ok done) new good picture same =
-    any_steps _ (suc old.steps) (same_outline old new good picture (same refl))
-returned_keeps old (Err why) new good picture same = good
-
 pub nacked_keeps : KeepsPictures → DeskShows → (old : State) (found : Option Delivery) → IsWorld old
     → IsWorld (nacked_for old found).1
 nacked_keeps keeps shows old None good = good
 nacked_keeps keeps shows old (Some delivery) good =
     let call = desk.nack old.desk delivery.sub delivery.link delivery.number in
-    returned_keeps old (answer_after old.steps call.0) call.1 good
+    by_desk_keeps (λ done. reply.Returned) old (answer_after old.steps call.0) call.1 good
     (nack_keeps keeps old.desk delivery.sub delivery.link delivery.number good.picture)
-    (λ is. shows.nacks old.desk delivery.sub delivery.link delivery.number call.1 (call_after old.steps call tt is))
-
-split_keeps : (old : State) (r : Result ℕ DeskRefusal) (new : Picture) → IsWorld old → KeepsLimits old.desk new
-    → ((count : ℕ) → r ≡ Ok count → outline_of new ≡ outline_of old.desk) → IsWorld (opened_by_desk old r new).1
-split_keeps old (Ok count) new good picture same =
-    any_steps _ (suc old.steps) (same_outline old new good picture (same count refl))
-split_keeps old (Err why) new good picture same = good
+    (λ done is. shows.nacks old.desk delivery.sub delivery.link delivery.number call.1
+    (call_after old.steps call done is))
 
 pub opened_keeps : KeepsPictures → DeskShows → (old : State) (found : Option Delivery) → IsWorld old
     → IsWorld (opened_for old found).1
 opened_keeps keeps shows old None good = good
 opened_keeps keeps shows old (Some delivery) good =
     let call = desk.nack_opened old.desk delivery.sub delivery.link delivery.number in
-    split_keeps old (answer_after old.steps call.0) call.1 good
+    by_desk_keeps reply.Opened old (answer_after old.steps call.0) call.1 good
     (open_keeps keeps old.desk delivery.sub delivery.link delivery.number good.picture)
     (λ count is. shows.opens old.desk delivery.sub delivery.link delivery.number count call.1
     (call_after old.steps call count is))
-
-expired_by_keeps : (old : State) (r : Result ℕ DeskRefusal) (new : Picture) → IsWorld old → KeepsLimits old.desk new
-    → outline_of new ≡ outline_of old.desk → IsWorld (expired_by_desk old r new).1
-expired_by_keeps old (Ok count) new good picture same =
-    any_steps _ (suc old.steps) (same_outline old new good picture same)
-expired_by_keeps old (Err why) new good picture same = good
 
 pub world_events_expired_keeps : KeepsPictures → DeskShows → (old : State) (now : ℕ) → IsWorld old
     → IsWorld (outcome.expired old now).1
 world_events_expired_keeps keeps shows old now good =
     let call = desk.expire old.desk now in
-    expired_by_keeps old (answer_after old.steps (Ok call.0)) call.1 good
-    (expire_keeps keeps old.desk now good.picture) (shows.expires old.desk now call.0 call.1 refl)
+    by_desk_keeps reply.Expired old (answer_after old.steps (Ok call.0)) call.1 good
+    (expire_keeps keeps old.desk now good.picture) (λ many is. shows.expires old.desk now call.0 call.1 refl)
 
 -- ---- links
 

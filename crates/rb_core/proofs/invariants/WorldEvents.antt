@@ -54,8 +54,8 @@ use Rattle.rb_core.proofs.whole_runs.Pairs.{all_find}
 publisher_set : (old : State) (p : ℕ) (publisher : PublisherState) → IsWorld old → AdmitsStaged old.schema publisher
     → IsWorld (outcome.with_publisher old p publisher)
 publisher_set old p publisher good admits =
-    apart old (slice_set old.publishers p publisher) old.intake old.hand good
-    (omega (arith, good.few, length-set old.publishers p publisher)) good.waiting
+    apart old (slice_set old.publishers p publisher) old.intake old.hand old.withdrawn old.steps good
+    (omega (arith, good.few, length-set old.publishers p publisher)) good.waiting good.marks
     (record {
       staged = all_set (AdmitsStaged old.schema) old.publishers p publisher good.admitted.staged admits;
       intake = good.admitted.intake;
@@ -75,8 +75,8 @@ publisher_keeps : (old : State) → IsWorld old → IsWorld (outcome.publisher_a
 publisher_keeps old good =
     let new : PublisherState = record { stream = stream.nothing; staged = None; sent = 0 } in
     world_events_unless (nat_le 64 (length old.publishers)) _ _ good
-    (λ room. apart old (old.publishers ++ new ∷ []) old.intake old.hand good
-    (omega (arith, leb-false _ _ room, length-append old.publishers (new ∷ []))) good.waiting
+    (λ room. apart old (old.publishers ++ new ∷ []) old.intake old.hand old.withdrawn old.steps good
+    (omega (arith, leb-false _ _ room, length-append old.publishers (new ∷ []))) good.waiting good.marks
     (record {
       staged = all_push (AdmitsStaged old.schema) old.publishers new good.admitted.staged tt;
       intake = good.admitted.intake;
@@ -135,9 +135,9 @@ sent_while_keeps old p publisher staged None admits good =
     let item : Item =
     record { publisher = p; own = publisher.sent + 1; origin = staged.origin; body = staged.body } in
     world_events_unless (nat_le old.desk.limits.intake (length old.intake)) _ _ good
-    (λ room. apart old (slice_set old.publishers p left) (old.intake ++ item ∷ []) old.hand good
+    (λ room. apart old (slice_set old.publishers p left) (old.intake ++ item ∷ []) old.hand old.withdrawn old.steps good
     (omega (arith, good.few, length-set old.publishers p left))
-    (omega (arith, leb-false _ _ room, length-append old.intake (item ∷ [])))
+    (omega (arith, leb-false _ _ room, length-append old.intake (item ∷ []))) good.marks
     (record {
       staged = all_set (AdmitsStaged old.schema) old.publishers p left good.admitted.staged tt;
       intake = all_push (λ (i : Item). AdmitsBody old.schema i.body) old.intake item good.admitted.intake admits;
@@ -231,7 +231,8 @@ turn_keeps : KeepsPictures → DeskShows → (old : State) → IsWorld old
 turn_keeps keeps shows old good =
     let held = hand_admitted old.schema old.hand old.intake good.admitted.hand good.admitted.intake in
     turned_keeps keeps shows (outcome.pulled old) (outcome.pulled old).hand held
-    (apart old old.publishers _ _ good good.few (omega (arith, good.waiting, fewer_wait old.hand old.intake))
+    (apart old old.publishers _ _ old.withdrawn old.steps good good.few
+    (omega (arith, good.waiting, fewer_wait old.hand old.intake)) good.marks
     (record {
       staged = good.admitted.staged;
       intake = rest_admitted old.schema old.hand old.intake good.admitted.intake;

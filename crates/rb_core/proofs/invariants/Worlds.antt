@@ -82,12 +82,15 @@ found_admitted schema sequence n (Some entry) is all =
 
 -- ---- parts that change
 
--- publishers, intake and hand change: they are few, and the schema admits what is in them
-pub apart : (old : State) (publishers : List PublisherState) (intake : List Item) (hand : Option Item) → IsWorld old
-    → length publishers ≤ 64 → length intake ≤ old.desk.limits.intake
+-- publishers, intake, hand and marks change: there are few, and the schema admits what is in them. Nothing depends on
+-- how many steps the desk has made.
+pub apart : (old : State) (publishers : List PublisherState) (intake : List Item) (hand : Option Item)
+    (marks : List Bool) (steps : ℕ) → IsWorld old → length publishers ≤ 64
+    → length intake ≤ old.desk.limits.intake → length marks ≤ length old.sequence
     → AdmitsAll old.schema publishers intake hand old.sequence
-    → IsWorld (record old { publishers = publishers; intake = intake; hand = hand })
-apart old publishers intake hand good few waiting admits = record {
+    → IsWorld
+    (record old { publishers = publishers; intake = intake; hand = hand; withdrawn = marks; steps = steps })
+apart old publishers intake hand marks steps good few waiting marked admits = record {
   admitted = admits;
   picture = good.picture;
   front = good.front;
@@ -98,41 +101,17 @@ apart old publishers intake hand good few waiting admits = record {
   deliveries = good.deliveries;
   next = good.next;
   are_of = good.are_of;
-  marks = good.marks;
+  marks = marked;
 }
 
--- of the marks of withdrawn entries only the number matters
 pub marks_changed : (old : State) (marks : List Bool) → IsWorld old → length marks ≤ length old.sequence
     → IsWorld (record old { withdrawn = marks })
-marks_changed old marks good few = record {
-  admitted = good.admitted;
-  picture = good.picture;
-  front = good.front;
-  few = good.few;
-  waiting = good.waiting;
-  members = good.members;
-  entries = good.entries;
-  deliveries = good.deliveries;
-  next = good.next;
-  are_of = good.are_of;
-  marks = few;
-}
+marks_changed old marks good few =
+    apart old old.publishers old.intake old.hand marks old.steps good good.few good.waiting few good.admitted
 
--- nothing depends on how many steps the desk has made
 pub any_steps : (w : State) (steps : ℕ) → IsWorld w → IsWorld (record w { steps = steps })
-any_steps w steps good = record {
-  admitted = good.admitted;
-  picture = good.picture;
-  front = good.front;
-  few = good.few;
-  waiting = good.waiting;
-  members = good.members;
-  entries = good.entries;
-  deliveries = good.deliveries;
-  next = good.next;
-  are_of = good.are_of;
-  marks = good.marks;
-}
+any_steps w steps good =
+    apart w w.publishers w.intake w.hand w.withdrawn steps good good.few good.waiting good.marks good.admitted
 
 -- what waits is within the limits of a later picture
 still_waits : (old : State) (desk : Picture) → IsWorld old → desk.limits ≡ old.desk.limits

@@ -2,7 +2,7 @@
 use Rattle.std.proofs.Common.{◌≡◌, ℕ, suc, ◌+◌, ◌<◌, ◌≤◌, inl, inr, false, List, [], ◌∷◌, ◌++◌, length, map}
 use Rattle.std.proofs.Common.{Option, Some, None}
 use Rattle.std.proofs.Common.{Result, Ok, Err, refl, sym, ap, subst, ◌∙◌, arith}
-use Rattle.std.specs.Prelude.{⊤, slice_get, slice_set, ◌↔◌, ◌==◌}
+use Rattle.std.specs.Prelude.{slice_get, slice_set, ◌↔◌, ◌==◌}
 use Rattle.std.specs.List.{AllByRecursion}
 use Rattle.std.proofs.lemmas.Bool.{eqb-true, eq-eqb, ne_eqb}
 use Rattle.std.proofs.lemmas.List.{length-append}
@@ -27,6 +27,7 @@ use Rattle.rb_subscriber.specs.declared.refusal.AcceptRefusal.{AcceptRefusal}
 use Rattle.rb_subscriber.specs.Endpoint.{Endpoint}
 use Rattle.rb_core.specs.declared.event.Event.{Event}
 use Rattle.rb_core.specs.declared.event.Event.TheVariants as event
+use Rattle.rb_core.specs.declared.reply.Reply.{Reply}
 use Rattle.rb_core.specs.declared.reply.Reply.TheVariants as reply
 use Rattle.rb_core.specs.declared.reply.BrokerRefusal.TheVariants as refusal
 use Rattle.rb_core.specs.Moves.{with_subscriber, Delivers, Accepts}
@@ -41,7 +42,7 @@ use Rattle.rb_core.proofs.headline.Gapless.{part_length}
 use Rattle.rb_core.proofs.whole_runs.Pairs.{map_set, set_same, all_find, found_in, find_passes, found_first, found_last}
 use Rattle.rb_core.proofs.reports.Telling.{TellingGoes, nothing_told, move_told, all_unused, later_numbers, BeginsEmpty}
 use Rattle.rb_core.proofs.reports.Telling.{changed_is, subscriber_of_end, subscriber_of_member, still_offered}
-use Rattle.rb_core.proofs.reports.Telling.{telling_with_both, with_desk, told_any_steps}
+use Rattle.rb_core.proofs.reports.Telling.{telling_with_both, with_desk, with_subscriptions}
 use Rattle.rb_desk.proofs.journals.KeepLaws.{call_after}
 use Rattle.rb_desk.specs.Journaled.{answer_after}
 
@@ -129,28 +130,19 @@ offered_tells schema old world delivery picture event is shown good h =
     ) in
     move_told schema world new event (reply.Delivery delivery) (out.delivered_by old (Ok delivery) picture).1
     (is ∙ changed_is world delivery.sub (say.delivered delivery) q at.1)
-    (inr (inr (inr (inr (inr (inr (inr (inr (inl deliveries))))))))) (record {
-      served = h.served;
-      senders = h.senders;
-      intake = h.intake;
-      hand = h.hand;
-      sequence = h.sequence;
-      closing = h.closing ∙ sym (ap (λ (o : Outline). o.closing) kept);
-      ends = offered_ends world.subscribers delivery.sub q delivery at.1 ∙ h.ends;
-      deliveries = all_push (IsDelivered new.subscribers) old.deliveries delivery
-          (still_offered world.subscribers delivery.sub q r old.deliveries at.1
-          (λ d there. found_first (λ (x : Delivery). x.number == d.number) q.deliveries (delivery ∷ []) d there)
-          h.deliveries)
-          here;
-      links = subst (λ n. AllByRecursion (λ (m : ℕ). m < n) world.links) (sym (ap (λ (o : Outline). o.next_link) kept))
-          h.links;
-      numbers = subst (λ n. AllByRecursion (AreBelow n) new.subscribers)
-          (sym (ap (λ (o : Outline). o.next_delivery) kept))
-          (all_set (AreBelow (suc delivery.number)) world.subscribers delivery.sub r later of_one);
-      bases = all_set (BeginsEmpty schema) world.subscribers delivery.sub r h.bases
-          (all_get (BeginsEmpty schema) world.subscribers delivery.sub q h.bases at.1);
-      withdrawn = h.withdrawn;
-    })
+    (inr (inr (inr (inr (inr (inr (inr (inr (inl deliveries)))))))))
+    (with_subscriptions schema old (out.delivered_by old (Ok delivery) picture).1 world new
+    (h.closing ∙ sym (ap (λ (o : Outline). o.closing) kept))
+    (offered_ends world.subscribers delivery.sub q delivery at.1 ∙ h.ends)
+    (all_push (IsDelivered new.subscribers) old.deliveries delivery
+    (still_offered world.subscribers delivery.sub q r old.deliveries at.1
+    (λ d there. found_first (λ (x : Delivery). x.number == d.number) q.deliveries (delivery ∷ []) d there)
+    h.deliveries) here)
+    (subst (λ n. AllByRecursion (λ (m : ℕ). m < n) world.links) (sym (ap (λ (o : Outline). o.next_link) kept)) h.links)
+    (subst (λ n. AllByRecursion (AreBelow n) new.subscribers) (sym (ap (λ (o : Outline). o.next_delivery) kept))
+    (all_set (AreBelow (suc delivery.number)) world.subscribers delivery.sub r later of_one))
+    (all_set (BeginsEmpty schema) world.subscribers delivery.sub r h.bases
+    (all_get (BeginsEmpty schema) world.subscribers delivery.sub q h.bases at.1)) h)
 
 took_tells : TakeShows → (schema : List Shape) (old : State) (world : World) (s now : ℕ) (end : Endpoint)
     (answer : Result Delivery DeskRefusal) (picture : Picture)
@@ -318,24 +310,19 @@ accept_tells steps schema old world d good h =
 
 -- ---- what the desk alone knows
 
--- it shows nothing else
-tell_deliveries_same_outline : (schema : List Shape) (old : State) (world : World) (picture : Picture)
-    → outline_of picture ≡ outline_of old.desk → IsToldBy schema old world
-    → IsToldBy schema (record old { desk = picture; steps = suc old.steps }) world
-tell_deliveries_same_outline schema old world picture same h =
-    told_any_steps schema (record old { desk = picture }) world (suc old.steps)
-    (with_desk schema old world picture (ap (λ (o : Outline). o.closing) same) (ap (λ (o : Outline). o.next_link) same)
-    (ap (λ (o : Outline). o.next_delivery) same) h)
-
-settled_tells : (schema : List Shape) (old : State) (world : World) (d : ℕ) (answer : Result ℕ DeskRefusal)
-    (picture : Picture) → ((floor : ℕ) → answer ≡ Ok floor → outline_of picture ≡ outline_of old.desk)
-    → IsToldBy schema old world
-    → TellingGoes schema world (event.Ack d) (out.acked_by_desk old answer picture)
-settled_tells schema old world d (Err why) picture shown h =
-    nothing_told schema world (event.Ack d) (reply.Refused (refusal.Desk why)) old refl h
-settled_tells schema old world d (Ok floor) picture shown h =
-    nothing_told schema world (event.Ack d) (reply.Floor floor) (record old { desk = picture; steps = suc old.steps }) refl
-    (tell_deliveries_same_outline schema old world picture (shown floor refl) h)
+-- its outline shows nothing of the call, and nothing is told
+by_desk_tells : {A : Type 0} (schema : List Shape) (old : State) (world : World) (event : Event) (given : A → Reply)
+    (answer : Result A DeskRefusal) (picture : Picture) → ((a : A) → told schema world event (given a) ≡ world)
+    → ((why : DeskRefusal) → told schema world event (reply.Refused (refusal.Desk why)) ≡ world)
+    → ((a : A) → answer ≡ Ok a → outline_of picture ≡ outline_of old.desk) → IsToldBy schema old world
+    → TellingGoes schema world event (out.by_desk given old answer picture)
+by_desk_tells schema old world event given (Err why) picture done refused shown h =
+    nothing_told schema world event (reply.Refused (refusal.Desk why)) old (refused why) h
+by_desk_tells schema old world event given (Ok a) picture done refused shown h =
+    let same = shown a refl in
+    nothing_told schema world event (given a) (record old { desk = picture; steps = suc old.steps }) (done a)
+    (with_desk schema old world picture (suc old.steps) (ap (λ (o : Outline). o.closing) same)
+    (ap (λ (o : Outline). o.next_link) same) (ap (λ (o : Outline). o.next_delivery) same) h)
 
 acked_at_tells : AckShows → (schema : List Shape) (old : State) (world : World) (d : ℕ) (delivery : Delivery)
     (found : Option Endpoint) → IsToldBy schema old world
@@ -344,7 +331,8 @@ acked_at_tells shows schema old world d delivery None h =
     nothing_told schema world (event.Ack d) (reply.Refused refusal.NoDelivery) old refl h
 acked_at_tells shows schema old world d delivery (Some end) h =
     let call = desk.ack old.desk delivery.sub delivery.link delivery.number end.cursor in
-    settled_tells schema old world d (answer_after old.steps call.0) call.1
+    by_desk_tells schema old world (event.Ack d) reply.Floor (answer_after old.steps call.0) call.1 (λ floor. refl)
+    (λ why. refl)
     (λ floor ok. shows old.desk delivery.sub delivery.link delivery.number end.cursor floor call.1
     (call_after old.steps call floor ok)) h
 
@@ -359,39 +347,19 @@ pub ack_tells : AckShows → (schema : List Shape) (old : State) (world : World)
     → TellingGoes schema world (event.Ack d) (out.acked old d)
 ack_tells shows schema old world d h = acked_tells shows schema old world d (out.delivery_of old d) h
 
-returned_tells : (schema : List Shape) (old : State) (world : World) (d : ℕ) (answer : Result ⊤ DeskRefusal)
-    (picture : Picture) → (answer ≡ Ok tt → outline_of picture ≡ outline_of old.desk) → IsToldBy schema old world
-    → TellingGoes schema world (event.Nack d) (out.nacked_by_desk old answer picture)
-returned_tells schema old world d (Err why) picture shown h =
-    nothing_told schema world (event.Nack d) (reply.Refused (refusal.Desk why)) old refl h
-returned_tells schema old world d (Ok done) picture shown h =
-    nothing_told schema world (event.Nack d) reply.Returned (record old { desk = picture; steps = suc old.steps })
-    refl
-    (tell_deliveries_same_outline schema old world picture (shown refl) h)
-
 nacked_tells : NackShows → (schema : List Shape) (old : State) (world : World) (d : ℕ) (found : Option Delivery)
     → IsToldBy schema old world → TellingGoes schema world (event.Nack d) (out.nacked_for old found)
 nacked_tells shows schema old world d None h =
     nothing_told schema world (event.Nack d) (reply.Refused refusal.NoDelivery) old refl h
 nacked_tells shows schema old world d (Some delivery) h =
     let call = desk.nack old.desk delivery.sub delivery.link delivery.number in
-    returned_tells schema old world d (answer_after old.steps call.0) call.1
-    (λ ok. shows old.desk delivery.sub delivery.link delivery.number call.1 (call_after old.steps call tt ok)) h
+    by_desk_tells schema old world (event.Nack d) (λ done. reply.Returned) (answer_after old.steps call.0) call.1
+    (λ done. refl) (λ why. refl)
+    (λ done ok. shows old.desk delivery.sub delivery.link delivery.number call.1 (call_after old.steps call done ok)) h
 
 pub nack_tells : NackShows → (schema : List Shape) (old : State) (world : World) (d : ℕ) → IsToldBy schema old world
     → TellingGoes schema world (event.Nack d) (out.nacked old d)
 nack_tells shows schema old world d h = nacked_tells shows schema old world d (out.delivery_of old d) h
-
-split_tells : (schema : List Shape) (old : State) (world : World) (d : ℕ) (answer : Result ℕ DeskRefusal)
-    (picture : Picture) → ((count : ℕ) → answer ≡ Ok count → outline_of picture ≡ outline_of old.desk)
-    → IsToldBy schema old world
-    → TellingGoes schema world (event.NackOpened d) (out.opened_by_desk old answer picture)
-split_tells schema old world d (Err why) picture shown h =
-    nothing_told schema world (event.NackOpened d) (reply.Refused (refusal.Desk why)) old refl h
-split_tells schema old world d (Ok count) picture shown h =
-    nothing_told schema world (event.NackOpened d) (reply.Opened count)
-    (record old { desk = picture; steps = suc old.steps }) refl
-    (tell_deliveries_same_outline schema old world picture (shown count refl) h)
 
 opened_tells : OpenShows → (schema : List Shape) (old : State) (world : World) (d : ℕ) (found : Option Delivery)
     → IsToldBy schema old world → TellingGoes schema world (event.NackOpened d) (out.opened_for old found)
@@ -399,7 +367,8 @@ opened_tells shows schema old world d None h =
     nothing_told schema world (event.NackOpened d) (reply.Refused refusal.NoDelivery) old refl h
 opened_tells shows schema old world d (Some delivery) h =
     let call = desk.nack_opened old.desk delivery.sub delivery.link delivery.number in
-    split_tells schema old world d (answer_after old.steps call.0) call.1
+    by_desk_tells schema old world (event.NackOpened d) reply.Opened (answer_after old.steps call.0) call.1
+    (λ count. refl) (λ why. refl)
     (λ count ok. shows old.desk delivery.sub delivery.link delivery.number count call.1
     (call_after old.steps call count ok)) h
 
@@ -407,19 +376,9 @@ pub nack_opened_tells : OpenShows → (schema : List Shape) (old : State) (world
     → IsToldBy schema old world → TellingGoes schema world (event.NackOpened d) (out.nacked_opened old d)
 nack_opened_tells shows schema old world d h = opened_tells shows schema old world d (out.delivery_of old d) h
 
-expired_tells : (schema : List Shape) (old : State) (world : World) (now : ℕ) (answer : Result ℕ DeskRefusal)
-    (picture : Picture) → outline_of picture ≡ outline_of old.desk → IsToldBy schema old world
-    → TellingGoes schema world (event.Expire now) (out.expired_by_desk old answer picture)
-expired_tells schema old world now (Err why) picture shown h =
-    nothing_told schema world (event.Expire now) (reply.Refused (refusal.Desk why)) old refl h
-expired_tells schema old world now (Ok count) picture shown h =
-    nothing_told schema world (event.Expire now) (reply.Expired count)
-    (record old { desk = picture; steps = suc old.steps }) refl
-    (tell_deliveries_same_outline schema old world picture shown h)
-
 pub expire_tells : ExpireShows → (schema : List Shape) (old : State) (world : World) (now : ℕ)
     → IsToldBy schema old world → TellingGoes schema world (event.Expire now) (out.expired old now)
 expire_tells shows schema old world now h =
     let call = desk.expire old.desk now in
-    expired_tells schema old world now (answer_after old.steps (Ok call.0)) call.1
-    (shows old.desk now call.0 call.1 refl) h
+    by_desk_tells schema old world (event.Expire now) reply.Expired (answer_after old.steps (Ok call.0)) call.1
+    (λ many. refl) (λ why. refl) (λ many ok. shows old.desk now call.0 call.1 refl) h

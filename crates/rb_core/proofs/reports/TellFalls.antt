@@ -31,7 +31,7 @@ use Rattle.rb_core.proofs.whole_runs.Pairs.{all_find, found_in, find_passes}
 use Rattle.rb_core.proofs.reports.TellDeliveries.{AcceptSteps, AcceptingSubscriber, accepting_subscriber, end_behind}
 use Rattle.rb_core.proofs.reports.TellSubscriptions.{ReconnectShows}
 use Rattle.rb_core.proofs.reports.Telling.{TellingGoes, nothing_told, move_told, all_new, changed_is, subscriber_of_end}
-use Rattle.rb_core.proofs.reports.Telling.{telling_with_both, told_any_steps, with_link}
+use Rattle.rb_core.proofs.reports.Telling.{telling_with_both, with_link}
 
 -- ---- one falls
 
@@ -171,7 +171,7 @@ relinked_tells shows schema old world s end (Ok link) picture is found fell h =
     let other = end_resumed link end in
     let set = telling_with_both schema old world s q r other at.1 refl refl (ap (end_resumed link) at.2) h in
     let new : World = record (with_subscriber world s r) { links = link ∷ world.links } in
-    let linked = with_link schema (with_endpoint old s other) (with_subscriber world s r) picture link
+    let linked = with_link schema (with_endpoint old s other) (with_subscriber world s r) picture (suc old.steps) link
     (ap (λ (o : Outline). o.closing) kept) shown.given (ap (λ (o : Outline). o.next_link) kept)
     (ap (λ (o : Outline). o.next_delivery) kept) set in
     let fresh : IsNew world.links link =
@@ -191,8 +191,7 @@ relinked_tells shows schema old world s end (Ok link) picture is found fell h =
     (changed_is world s (say.resumed link) q at.1) in
     move_told schema world new (event.Resume s) (reply.Link link)
     (out.resumed_with old s end (Ok link) picture).1 is_new
-    (inr (inr (inr (inr (inr (inr (inr (inr (inr (inr (inr (inr (inr (inr resumes))))))))))))))
-    (told_any_steps schema _ new (suc old.steps) linked)
+    (inr (inr (inr (inr (inr (inr (inr (inr (inr (inr (inr (inr (inr (inr resumes)))))))))))))) linked
 
 -- both ways of the test for the mark
 unless_fallen : (P : Reply × State → Type 0) (mark : Bool) (x y : Reply × State) → P x → (mark ≡ true → P y)

@@ -30,7 +30,7 @@ use Rattle.rb_core.specs.Told as say
 use Rattle.rb_core.specs.Told.{told, IsSender, IsToldBy}
 use Rattle.rb_core.specs.World.{Sender, World}
 use Rattle.rb_core.proofs.whole_runs.Pairs.{paired_get, paired_set, paired_push}
-use Rattle.rb_core.proofs.reports.Telling.{TellingGoes, nothing_told, move_told, either}
+use Rattle.rb_core.proofs.reports.Telling.{TellingGoes, nothing_told, move_told, either, with_sendings}
 
 -- ---- streams
 
@@ -74,20 +74,10 @@ publisher_tells begins schema old world h =
     let sender : Sender = record { text = []; staged = None; sent = [] } in
     let pair : IsSender one sender = record { stream = no_text begins; staged = refl; sent = refl } in
     let came : State = record old { publishers = old.publishers ++ one ∷ [] } in
-    let tells : IsToldBy schema came (say.publisher_added world) = record {
-      served = h.served;
-      senders = paired_push IsSender old.publishers world.senders one sender h.senders pair;
-      intake = h.intake;
-      hand = h.hand;
-      sequence = h.sequence;
-      closing = h.closing;
-      ends = h.ends;
-      deliveries = h.deliveries;
-      links = h.links;
-      numbers = h.numbers;
-      bases = h.bases;
-      withdrawn = h.withdrawn;
-    } in
+    let tells : IsToldBy schema came (say.publisher_added world) =
+    with_sendings schema old came world (say.publisher_added world)
+    (paired_push IsSender old.publishers world.senders one sender h.senders pair) h.intake h.hand h.sequence h.withdrawn
+    h in
     either (TellingGoes schema world event.Publisher) (nat_le 64 (length old.publishers))
     (out.refused old refusal.TooMany) (reply.Publisher (length old.publishers), came)
     (nothing_told schema world event.Publisher (reply.Refused refusal.TooMany) old refl h)
@@ -100,20 +90,10 @@ publisher_tells begins schema old world h =
 pub with_pair : (schema : List Shape) (old : State) (world : World) (p : ℕ) (publisher : PublisherState)
     (sender : Sender) → IsSender publisher sender → IsToldBy schema old world
     → IsToldBy schema (with_publisher old p publisher) (with_sender world p sender)
-with_pair schema old world p publisher sender pair h = record {
-  served = h.served;
-  senders = paired_set IsSender old.publishers world.senders p publisher sender h.senders pair;
-  intake = h.intake;
-  hand = h.hand;
-  sequence = h.sequence;
-  closing = h.closing;
-  ends = h.ends;
-  deliveries = h.deliveries;
-  links = h.links;
-  numbers = h.numbers;
-  bases = h.bases;
-  withdrawn = h.withdrawn;
-}
+with_pair schema old world p publisher sender pair h =
+    with_sendings schema old (with_publisher old p publisher) world (with_sender world p sender)
+    (paired_set IsSender old.publishers world.senders p publisher sender h.senders pair) h.intake h.hand h.sequence
+    h.withdrawn h
 
 -- what it sent stays as it was
 stages_told : (schema : List Shape) (old : State) (world : World) (event : Event) (given : Reply) (p : ℕ)
@@ -258,20 +238,9 @@ queued_tells schema old world p publisher some e holds h =
     let is : say.sent world p own ≡ say.with_sent world p sender item = ap (say.sent_of world p own) at.1
     ∙ ap (say.sent_staged world p own sender) staged in
     move_told schema world (say.with_sent world p sender item) (event.Send p) (reply.Sent own)
-    (out.sent_item old p publisher some).1 is (inr (inr (inr (inl sends)))) (record {
-      served = h.served;
-      senders = set.senders;
-      intake = ap (λ items. items ++ item ∷ []) h.intake;
-      hand = h.hand;
-      sequence = h.sequence;
-      closing = h.closing;
-      ends = h.ends;
-      deliveries = h.deliveries;
-      links = h.links;
-      numbers = h.numbers;
-      bases = h.bases;
-      withdrawn = h.withdrawn;
-    })
+    (out.sent_item old p publisher some).1 is (inr (inr (inr (inl sends))))
+    (with_sendings schema old (out.sent_item old p publisher some).1 world (say.with_sent world p sender item)
+    set.senders (ap (λ items. items ++ item ∷ []) h.intake) h.hand h.sequence h.withdrawn h)
 
 open_tells : (schema : List Shape) (old : State) (world : World) (p : ℕ) (publisher : PublisherState)
     (some : Staged) (closing : Option ℕ) → slice_get old.publishers p ≡ Some publisher → publisher.staged

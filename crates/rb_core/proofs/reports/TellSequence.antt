@@ -1,6 +1,6 @@
 -- What a turn reports, and what a close reports.
 use Rattle.std.proofs.Common.{◌≡◌, ℕ, suc, ◌<◌, inl, inr, List, [], ◌∷◌, ◌++◌, length, Option, Some, None, Result, Ok}
-use Rattle.std.proofs.Common.{◌+◌, Err, refl, sym, ap, subst, ◌∙◌}
+use Rattle.std.proofs.Common.{Err, refl, sym, ap, subst, ◌∙◌}
 use Rattle.std.specs.Prelude.{IfSome}
 use Rattle.std.specs.List.{AllByRecursion}
 use Rattle.cs_model.specs.declared.shape.Shape.{Shape}
@@ -21,8 +21,8 @@ use Rattle.rb_core.specs.Told.{told, AreBelow, IsToldBy}
 use Rattle.rb_core.specs.World.{World}
 use Rattle.rb_core.proofs.reports.Telling.{Course, IsTold, no_move, one_move, both_courses, TellingGoes, nothing_told}
 use Rattle.rb_desk.proofs.journals.KeepLaws.{call_after}
-use Rattle.rb_desk.specs.Journaled.{answer_after, closing_steps}
-use Rattle.rb_core.proofs.reports.Telling.{move_told}
+use Rattle.rb_desk.specs.Journaled.{answer_after}
+use Rattle.rb_core.proofs.reports.Telling.{move_told, with_sendings, with_subscriptions, with_desk}
 
 -- what the desk shows of a placement, and of the end
 abbrev pub PlaceShows : Type 0
@@ -41,20 +41,9 @@ with_taken old hand intake = record old { hand = hand; intake = intake }
 
 still_tells : (schema : List Shape) (old : State) (world : World) (hand : Option Item) (intake : List Item) → old.hand
     ≡ hand → old.intake ≡ intake → IsToldBy schema old world → IsToldBy schema (with_taken old hand intake) world
-still_tells schema old world hand intake in_hand waits h = record {
-  served = h.served;
-  senders = h.senders;
-  intake = h.intake ∙ waits;
-  hand = h.hand ∙ in_hand;
-  sequence = h.sequence;
-  closing = h.closing;
-  ends = h.ends;
-  deliveries = h.deliveries;
-  links = h.links;
-  numbers = h.numbers;
-  bases = h.bases;
-  withdrawn = h.withdrawn;
-}
+still_tells schema old world hand intake in_hand waits h =
+    with_sendings schema old (with_taken old hand intake) world world h.senders (h.intake ∙ waits) (h.hand ∙ in_hand)
+    h.sequence h.withdrawn h
 
 -- what is pulled is told, by what is in hand and what waits
 pulled_by_tells : (schema : List Shape) (old : State) (world : World) (hand : Option Item) (intake : List Item)
@@ -68,20 +57,9 @@ pulled_by_tells schema old world None [] in_hand waits h =
 pulled_by_tells schema old world None (item ∷ rest) in_hand waits h =
     let pulls : Pulls world (say.pulled_by world None (item ∷ rest)) =
     record { item = item; rest = rest; empty = h.hand ∙ in_hand; first = h.intake ∙ waits; kept = refl } in
-    let tells : IsToldBy schema (with_taken old (Some item) rest) (say.pulled_by world None (item ∷ rest)) = record {
-      served = h.served;
-      senders = h.senders;
-      intake = refl;
-      hand = refl;
-      sequence = h.sequence;
-      closing = h.closing;
-      ends = h.ends;
-      deliveries = h.deliveries;
-      links = h.links;
-      numbers = h.numbers;
-      bases = h.bases;
-      withdrawn = h.withdrawn;
-    } in
+    let tells : IsToldBy schema (with_taken old (Some item) rest) (say.pulled_by world None (item ∷ rest)) =
+    with_sendings schema old (with_taken old (Some item) rest) world (say.pulled_by world None (item ∷ rest)) h.senders
+    refl refl h.sequence h.withdrawn h in
     (one_move world (say.pulled_by world None (item ∷ rest)) (inr (inr (inr (inr (inl pulls))))), tells)
 
 -- what was told and the broker have the same in hand, and the same waits
@@ -128,25 +106,15 @@ placed_tells shows schema world mid item (Ok number) front in_hand is course h =
       kept = ap (λ n. say.placed_from pulled n (Some item)) next;
     } in
     let is_new : say.placed pulled number ≡ new = ap (say.placed_from pulled number) holds in
-    let tells : IsToldBy schema (out.placed mid item (Ok number)).1 new = record {
-      served = h.served;
-      senders = h.senders;
-      intake = h.intake;
-      hand = refl;
-      sequence = ap (λ entries. entries ++ entry number ∷ []) h.sequence;
-      closing = h.closing ∙ sym (ap (λ (o : Outline). o.closing) kept);
-      ends = h.ends;
-      deliveries = h.deliveries;
-      links = subst (λ n. AllByRecursion (λ (m : ℕ). m < n) pulled.links) (sym (ap (λ (o : Outline). o.next_link) kept))
-          h.links;
-      numbers = subst (λ n. AllByRecursion (AreBelow n) pulled.subscribers)
-          (sym (ap (λ (o : Outline). o.next_delivery) kept)) h.numbers;
-      bases = h.bases;
-      withdrawn = h.withdrawn;
-    } in (
+    let after = (out.placed mid item (Ok number)).1 in
+    let sent = with_sendings schema mid after pulled new h.senders h.intake refl
+    (ap (λ entries. entries ++ entry number ∷ []) h.sequence) h.withdrawn h in
+    let tells : IsToldBy schema after new =
+    with_desk schema _ new after.desk after.steps (ap (λ (o : Outline). o.closing) kept)
+    (ap (λ (o : Outline). o.next_link) kept) (ap (λ (o : Outline). o.next_delivery) kept) sent in (
       subst (Course world) (sym is_new)
           (both_courses world pulled new course (one_move pulled new (inr (inr (inr (inr (inr (inl places)))))))),
-      subst (IsToldBy schema (out.placed mid item (Ok number)).1) (sym is_new) tells,
+      subst (IsToldBy schema after) (sym is_new) tells,
     )
 
 turned_tells : PlaceShows → (schema : List Shape) (world : World) (mid : State) (hand : Option Item) → mid.desk.front
@@ -190,20 +158,10 @@ close_tells shows schema old world good h =
     let kept = shown.kept in
     let moves = ends_told world old.desk.front last old.desk.closing h.closing good.picture.closed shown.front
     (good.front ∙ ap (λ (entries : List Entry). length entries) (sym h.sequence)) in
-    move_told schema world (ended_with world (Some last)) event.Close (reply.Closed last)
-    (record old { desk = new; steps = old.steps + length (closing_steps old.desk.closing) }) refl moves (record {
-      served = h.served;
-      senders = h.senders;
-      intake = h.intake;
-      hand = h.hand;
-      sequence = h.sequence;
-      closing = sym (ap (λ (o : Outline). o.closing) kept);
-      ends = h.ends;
-      deliveries = h.deliveries;
-      links = subst (λ n. AllByRecursion (λ (m : ℕ). m < n) world.links) (sym (ap (λ (o : Outline). o.next_link) kept))
-          h.links;
-      numbers = subst (λ n. AllByRecursion (AreBelow n) world.subscribers)
-          (sym (ap (λ (o : Outline). o.next_delivery) kept)) h.numbers;
-      bases = h.bases;
-      withdrawn = h.withdrawn;
-    })
+    let closed = (out.closed old).1 in
+    move_told schema world (ended_with world (Some last)) event.Close (reply.Closed last) closed refl moves
+    (with_subscriptions schema old closed world (ended_with world (Some last))
+    (sym (ap (λ (o : Outline). o.closing) kept)) h.ends h.deliveries
+    (subst (λ n. AllByRecursion (λ (m : ℕ). m < n) world.links) (sym (ap (λ (o : Outline). o.next_link) kept)) h.links)
+    (subst (λ n. AllByRecursion (AreBelow n) world.subscribers) (sym (ap (λ (o : Outline). o.next_delivery) kept))
+    h.numbers) h.bases h)

@@ -27,7 +27,7 @@ use Rattle.rb_core.specs.Told.{told, IsDelivered, AreBelow, IsToldBy}
 use Rattle.rb_core.specs.World.{Subscriber, World, endpoint_of}
 use Rattle.rb_core.proofs.headline.Moving.{all_map, get_push}
 use Rattle.rb_core.proofs.reports.Telling.{TellingGoes, nothing_told, move_told, all_new, BeginsEmpty, changed_is}
-use Rattle.rb_core.proofs.reports.Telling.{told_any_steps}
+use Rattle.rb_core.proofs.reports.Telling.{with_subscriptions}
 use Rattle.rb_desk.proofs.journals.KeepLaws.{call_after}
 use Rattle.rb_desk.specs.Journaled.{answer_after}
 use Rattle.rb_core.proofs.reports.Telling.{subscriber_of_end, telling_with_both, with_desk, with_link}
@@ -92,7 +92,7 @@ subscribed_tells shows schema old world start (Ok made) picture is good h =
     let q = tell_subscriptions_one schema start link in
     let end = new_endpoint start link (empty_tables old.schema) in
     let new = say.subscribed schema world start link in
-    let linked = with_link schema old world picture link (ap (λ (o : Outline). o.closing) kept) shown.given
+    let linked = with_link schema old world picture (suc old.steps) link (ap (λ (o : Outline). o.closing) kept) shown.given
     (ap (λ (o : Outline). o.next_link) kept) (ap (λ (o : Outline). o.next_delivery) kept) h in
     let far : old.desk.front ≡ length world.sequence =
     good.front ∙ ap (λ (entries : List Entry). length entries) (sym h.sequence) in
@@ -110,20 +110,11 @@ subscribed_tells shows schema old world start (Ok made) picture is good h =
     } in
     move_told schema world new (event.Subscribe start) (reply.Subscriber made.0 link)
     (out.subscribed_by old start (Ok made) picture).1 refl (inr (inr (inr (inr (inr (inr (inr (inl begins))))))))
-    (record {
-      served = h.served;
-      senders = h.senders;
-      intake = h.intake;
-      hand = h.hand;
-      sequence = h.sequence;
-      closing = linked.closing;
-      ends = push_ends world.subscribers q old.endpoints end h.ends (one_end schema old.schema start link h.served);
-      deliveries = pushed_offers world.subscribers q old.deliveries h.deliveries;
-      links = linked.links;
-      numbers = all_push (AreBelow picture.next_delivery) world.subscribers q linked.numbers tt;
-      bases = all_push (BeginsEmpty schema) world.subscribers q h.bases refl;
-      withdrawn = h.withdrawn;
-    })
+    (with_subscriptions schema old (out.subscribed_by old start (Ok made) picture).1 world new linked.closing
+    (push_ends world.subscribers q old.endpoints end h.ends (one_end schema old.schema start link h.served))
+    (pushed_offers world.subscribers q old.deliveries h.deliveries) linked.links
+    (all_push (AreBelow picture.next_delivery) world.subscribers q linked.numbers tt)
+    (all_push (BeginsEmpty schema) world.subscribers q h.bases refl) h)
 
 pub subscribe_tells : SubscribeShows → (schema : List Shape) (old : State) (world : World) (start : ℕ) → IsWorld old
     → IsToldBy schema old world → TellingGoes schema world (event.Subscribe start) (out.subscribed old start)
@@ -154,7 +145,7 @@ linked_tells shows schema old world s cursor end (Ok link) picture is found good
     let set = telling_with_both schema old world s q r other at.1 refl refl (ap (tell_subscriptions_under link) at.2)
     h in
     let new : World = record (with_subscriber world s r) { links = link ∷ world.links } in
-    let linked = with_link schema (with_endpoint old s other) (with_subscriber world s r) picture link
+    let linked = with_link schema (with_endpoint old s other) (with_subscriber world s r) picture (suc old.steps) link
     (ap (λ (o : Outline). o.closing) kept) shown.given (ap (λ (o : Outline). o.next_link) kept)
     (ap (λ (o : Outline). o.next_delivery) kept) set in
     let fresh : IsNew world.links link =
@@ -167,8 +158,7 @@ linked_tells shows schema old world s cursor end (Ok link) picture is found good
     (changed_is world s (say.reconnected link) q at.1) in
     move_told schema world new (event.Reconnect s cursor) (reply.Link link)
     (out.reconnected_with old s end (Ok link) picture).1 is_new
-    (inr (inr (inr (inr (inr (inr (inr (inr (inr (inr (inl reconnects)))))))))))
-    (told_any_steps schema _ new (suc old.steps) linked)
+    (inr (inr (inr (inr (inr (inr (inr (inr (inr (inr (inl reconnects))))))))))) linked
 
 reconnected_tells : ReconnectShows → (schema : List Shape) (old : State) (world : World) (s cursor : ℕ)
     (found : Option Endpoint) → slice_get old.endpoints s ≡ found → IsWorld old → IsToldBy schema old world
@@ -206,13 +196,13 @@ left_tells shows schema old world s end (Ok done) picture is found h =
     let other : Endpoint = record end { closed = true } in
     let set = telling_with_both schema old world s q r other at.1 refl refl (ap tell_subscriptions_ended at.2) h in
     let new = with_subscriber world s r in
-    let tells = with_desk schema (with_endpoint old s other) new picture (ap (λ (o : Outline). o.closing) kept)
-    (ap (λ (o : Outline). o.next_link) kept) (ap (λ (o : Outline). o.next_delivery) kept) set in
+    let tells = with_desk schema (with_endpoint old s other) new picture (suc old.steps)
+    (ap (λ (o : Outline). o.closing) kept) (ap (λ (o : Outline). o.next_link) kept)
+    (ap (λ (o : Outline). o.next_delivery) kept) set in
     let leaves : Unsubscribes world new = record { s = s; subscriber = q; found = at.1; kept = refl } in
     move_told schema world new (event.Unsubscribe s) reply.Unsubscribed
     (out.unsubscribed_with old s end (Ok done) picture).1 (changed_is world s say.unsubscribed q at.1)
-    (inr (inr (inr (inr (inr (inr (inr (inr (inr (inr (inr (inl leaves))))))))))))
-    (told_any_steps schema _ new (suc old.steps) tells)
+    (inr (inr (inr (inr (inr (inr (inr (inr (inr (inr (inr (inl leaves)))))))))))) tells
 
 unsubscribed_tells : UnsubscribeShows
     → (schema : List Shape) (old : State) (world : World) (s : ℕ) (found : Option Endpoint) → slice_get old.endpoints s

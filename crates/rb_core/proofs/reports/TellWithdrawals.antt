@@ -24,7 +24,7 @@ use Rattle.rb_core.specs.World.{Sender, World}
 use Rattle.rb_core.proofs.invariants.Marks.{mark_here, mark_other}
 use Rattle.rb_core.proofs.invariants.Numbers.{number_from_one, found_from_one}
 use Rattle.rb_core.proofs.whole_runs.Pairs.{paired_get}
-use Rattle.rb_core.proofs.reports.Telling.{TellingGoes, nothing_told, move_told}
+use Rattle.rb_core.proofs.reports.Telling.{TellingGoes, nothing_told, move_told, with_sendings}
 use Rattle.rb_core.proofs.reports.TellPublishers.{with_pair}
 
 -- ---- the entry
@@ -100,20 +100,10 @@ entry_tells schema old world p n publisher entry e free found mine fresh good h 
     ∙ ap (say.withdrawn_entry world p n sender) there in
     move_told schema world (say.with_withdrawal world p n sender entry) (event.Withdraw p n) reply.Staged
     (out.withdrawn_entry old p publisher n entry).1 is
-    (inr (inr (inr (inr (inr (inr (inr (inr (inr (inr (inr (inr (inl withdraws))))))))))))) (record {
-      served = h.served;
-      senders = set.senders;
-      intake = h.intake;
-      hand = h.hand;
-      sequence = h.sequence;
-      closing = h.closing;
-      ends = h.ends;
-      deliveries = h.deliveries;
-      links = h.links;
-      numbers = h.numbers;
-      bases = h.bases;
-      withdrawn = marks_told old.withdrawn world.withdrawn n some h.withdrawn;
-    })
+    (inr (inr (inr (inr (inr (inr (inr (inr (inr (inr (inr (inr (inl withdraws)))))))))))))
+    (with_sendings schema old (out.withdrawn_entry old p publisher n entry).1 world
+    (say.with_withdrawal world p n sender entry) set.senders h.intake h.hand h.sequence
+    (marks_told old.withdrawn world.withdrawn n some h.withdrawn) h)
 
 -- the tests of an entry that is found
 when_found : (P : Reply × State → Type 0) (mine marked : Bool) (x y z : Reply × State) → P x → P y

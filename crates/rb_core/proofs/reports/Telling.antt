@@ -1,7 +1,7 @@
 -- What an event and its reply report: a course of moves, and what the broker has after it. This is the common part of
 -- all events.
 use Rattle.std.proofs.Common.{◌≡◌, ℕ, suc, ◌<◌, inl, inr, Bool, true, false, cond, List, [], ◌∷◌, ◌++◌, Some, refl, sym}
-use Rattle.std.proofs.Common.{ap, subst, find, ◌==◌, ◌∙◌, arith}
+use Rattle.std.proofs.Common.{ap, map, subst, find, ◌==◌, ◌↔◌, ◌∙◌, arith}
 use Rattle.std.specs.Prelude.{slice_get, slice_set}
 use Rattle.std.specs.List.{AllByRecursion}
 use Rattle.std.proofs.lemmas.Bool.Decides.{eqb_tells}
@@ -15,8 +15,9 @@ use Rattle.rb_core.specs.declared.event.Event.{Event}
 use Rattle.rb_core.specs.declared.reply.Reply.{Reply}
 use Rattle.rb_core.specs.Moves.{with_subscriber, IsNew, IsUnused, Moves, Leads}
 use Rattle.rb_core.specs.Outcome.{with_endpoint}
-use Rattle.rb_core.specs.State.{State, IsWorld, empty_tables, member_of_end}
-use Rattle.rb_core.specs.Told.{told, subscriber_set, subscriber_changed, delivery_told, IsDelivered, AreBelow, IsToldBy}
+use Rattle.rb_core.specs.State.{State, IsWorld, empty_tables, is_withdrawn, member_of_end}
+use Rattle.rb_core.specs.Told.{told, subscriber_set, subscriber_changed, delivery_told, Paired, IsSender, IsDelivered}
+use Rattle.rb_core.specs.Told.{AreBelow, IsToldBy}
 use Rattle.rb_core.specs.World.{Subscriber, World, endpoint_of}
 use Rattle.rb_core.proofs.headline.Moving.{all_set, all_get, all_map}
 use Rattle.rb_core.proofs.whole_runs.Pairs.{get_of_map, map_set}
@@ -140,92 +141,96 @@ still_offered subs s q r deliveries found grows all =
       | inr other ↦ (h.0, get_set_other subs s d.sub r (λ e. other.1 (sym e)) ∙ h.1, h.2)
     ]
 
--- one subscription becomes another that began with the same tables and has the same deliveries, and so does its end
-pub telling_with_both : (schema : List Shape) (old : State) (world : World) (s : ℕ) (q r : Subscriber) (end : Endpoint)
-    → slice_get world.subscribers s ≡ Some q → r.base ≡ q.base → r.deliveries ≡ q.deliveries → endpoint_of r ≡ end
-    → IsToldBy schema old world
-    → IsToldBy schema (with_endpoint old s end) (with_subscriber world s r)
-telling_with_both schema old world s q r end found base same is h = record {
+-- what is sent, what waits, what is placed and what is withdrawn become others; the desk and its subscriptions stay
+pub with_sendings : (schema : List Shape) (old new : State) (world after : World)
+    → Paired IsSender new.publishers after.senders → after.intake ≡ new.intake → after.hand ≡ new.hand
+    → after.sequence ≡ new.sequence
+    → ((n : ℕ) → 0 < n → (is_withdrawn new n ≡ false) ↔ IsNew after.withdrawn n) → IsToldBy schema old world
+    → IsToldBy schema
+    (record new { schema = old.schema; desk = old.desk; endpoints = old.endpoints; deliveries = old.deliveries })
+    (record after { closing = world.closing; links = world.links; subscribers = world.subscribers })
+with_sendings schema old new world after senders intake hand sequence withdrawn h = record {
   served = h.served;
-  senders = h.senders;
-  intake = h.intake;
-  hand = h.hand;
-  sequence = h.sequence;
-  closing = h.closing;
-  ends = map_set endpoint_of world.subscribers s r ∙ ap (λ ends. slice_set ends s (endpoint_of r)) h.ends
-      ∙ ap (slice_set old.endpoints s) is;
-  deliveries = still_offered world.subscribers s q r old.deliveries found
-      (λ d here. ap (find (λ (x : Delivery). x.number == d.number)) same ∙ here)
-      h.deliveries;
-  links = h.links;
-  numbers = all_set (AreBelow old.desk.next_delivery) world.subscribers s r h.numbers
-      (subst (AllByRecursion (λ (o : Delivery). o.number < old.desk.next_delivery)) (sym same)
-      (all_get (AreBelow old.desk.next_delivery) world.subscribers s q h.numbers found));
-  bases = all_set (BeginsEmpty schema) world.subscribers s r h.bases
-      (base ∙ all_get (BeginsEmpty schema) world.subscribers s q h.bases found);
-  withdrawn = h.withdrawn;
-}
-
--- ---- the desk
-
--- how many steps it has made is not told
-pub told_any_steps : (schema : List Shape) (state : State) (world : World) (steps : ℕ) → IsToldBy schema state world
-    → IsToldBy schema (record state { steps = steps }) world
-told_any_steps schema state world steps h = record {
-  served = h.served;
-  senders = h.senders;
-  intake = h.intake;
-  hand = h.hand;
-  sequence = h.sequence;
+  senders = senders;
+  intake = intake;
+  hand = hand;
+  sequence = sequence;
   closing = h.closing;
   ends = h.ends;
   deliveries = h.deliveries;
   links = h.links;
   numbers = h.numbers;
   bases = h.bases;
-  withdrawn = h.withdrawn;
+  withdrawn = withdrawn;
 }
 
--- the desk changes in nothing that is told
-pub with_desk : (schema : List Shape) (old : State) (world : World) (desk : Picture) → desk.closing ≡ old.desk.closing
-    → desk.next_link ≡ old.desk.next_link → desk.next_delivery ≡ old.desk.next_delivery → IsToldBy schema old world
-    → IsToldBy schema (record old { desk = desk }) world
-with_desk schema old world desk closing link delivery h = record {
+-- the desk and its subscriptions become others; what is sent, placed and withdrawn stays
+pub with_subscriptions : (schema : List Shape) (old new : State) (world after : World)
+    → after.closing ≡ new.desk.closing → map endpoint_of after.subscribers ≡ new.endpoints
+    → AllByRecursion (IsDelivered after.subscribers) new.deliveries
+    → AllByRecursion (λ link. link < new.desk.next_link) after.links
+    → AllByRecursion (AreBelow new.desk.next_delivery) after.subscribers
+    → AllByRecursion (BeginsEmpty schema) after.subscribers → IsToldBy schema old world
+    → IsToldBy schema
+    (record old { desk = new.desk; steps = new.steps; endpoints = new.endpoints; deliveries = new.deliveries })
+    (record world { closing = after.closing; links = after.links; subscribers = after.subscribers })
+with_subscriptions schema old new world after closing ends deliveries links numbers bases h = record {
   served = h.served;
   senders = h.senders;
   intake = h.intake;
   hand = h.hand;
   sequence = h.sequence;
-  closing = h.closing ∙ sym closing;
-  ends = h.ends;
-  deliveries = h.deliveries;
-  links = subst (λ n. AllByRecursion (λ (m : ℕ). m < n) world.links) (sym link) h.links;
-  numbers = subst (λ n. AllByRecursion (AreBelow n) world.subscribers) (sym delivery) h.numbers;
-  bases = h.bases;
+  closing = closing;
+  ends = ends;
+  deliveries = deliveries;
+  links = links;
+  numbers = numbers;
+  bases = bases;
   withdrawn = h.withdrawn;
 }
+
+-- one subscription becomes another that began with the same tables and has the same deliveries, and so does its end
+pub telling_with_both : (schema : List Shape) (old : State) (world : World) (s : ℕ) (q r : Subscriber) (end : Endpoint)
+    → slice_get world.subscribers s ≡ Some q → r.base ≡ q.base → r.deliveries ≡ q.deliveries → endpoint_of r ≡ end
+    → IsToldBy schema old world
+    → IsToldBy schema (with_endpoint old s end) (with_subscriber world s r)
+telling_with_both schema old world s q r end found base same is h =
+    with_subscriptions schema old (with_endpoint old s end) world (with_subscriber world s r) h.closing
+    (map_set endpoint_of world.subscribers s r ∙ ap (λ ends. slice_set ends s (endpoint_of r)) h.ends
+    ∙ ap (slice_set old.endpoints s) is)
+    (still_offered world.subscribers s q r old.deliveries found
+    (λ d here. ap (find (λ (x : Delivery). x.number == d.number)) same ∙ here) h.deliveries)
+    h.links
+    (all_set (AreBelow old.desk.next_delivery) world.subscribers s r h.numbers
+    (subst (AllByRecursion (λ (o : Delivery). o.number < old.desk.next_delivery)) (sym same)
+    (all_get (AreBelow old.desk.next_delivery) world.subscribers s q h.numbers found)))
+    (all_set (BeginsEmpty schema) world.subscribers s r h.bases
+    (base ∙ all_get (BeginsEmpty schema) world.subscribers s q h.bases found)) h
+
+-- ---- the desk
+
+-- the desk changes in nothing that is told; how many steps it has made is not told
+pub with_desk : (schema : List Shape) (old : State) (world : World) (desk : Picture) (steps : ℕ)
+    → desk.closing ≡ old.desk.closing → desk.next_link ≡ old.desk.next_link
+    → desk.next_delivery ≡ old.desk.next_delivery → IsToldBy schema old world
+    → IsToldBy schema (record old { desk = desk; steps = steps }) world
+with_desk schema old world desk steps closing link delivery h =
+    with_subscriptions schema old (record old { desk = desk; steps = steps }) world world (h.closing ∙ sym closing)
+    h.ends h.deliveries (subst (λ n. AllByRecursion (λ (m : ℕ). m < n) world.links) (sym link) h.links)
+    (subst (λ n. AllByRecursion (AreBelow n) world.subscribers) (sym delivery) h.numbers) h.bases h
 
 -- it gives a link
-pub with_link : (schema : List Shape) (old : State) (world : World) (desk : Picture) (link : ℕ) → desk.closing
-    ≡ old.desk.closing → link ≡ old.desk.next_link → desk.next_link ≡ suc link → desk.next_delivery
-    ≡ old.desk.next_delivery
-    → IsToldBy schema old world
-    → IsToldBy schema (record old { desk = desk }) (record world { links = link ∷ world.links })
-with_link schema old world desk link closing given next delivery h = record {
-  served = h.served;
-  senders = h.senders;
-  intake = h.intake;
-  hand = h.hand;
-  sequence = h.sequence;
-  closing = h.closing ∙ sym closing;
-  ends = h.ends;
-  deliveries = h.deliveries;
-  links = subst (λ n. AllByRecursion (λ (m : ℕ). m < n) (link ∷ world.links)) (sym next) (
-    omega arith,
-    later_links link world.links
-        (subst (λ n. AllByRecursion (λ (m : ℕ). m < n) world.links) (sym given) h.links),
-  );
-  numbers = subst (λ n. AllByRecursion (AreBelow n) world.subscribers) (sym delivery) h.numbers;
-  bases = h.bases;
-  withdrawn = h.withdrawn;
-}
+pub with_link : (schema : List Shape) (old : State) (world : World) (desk : Picture) (steps link : ℕ)
+    → desk.closing ≡ old.desk.closing → link ≡ old.desk.next_link → desk.next_link ≡ suc link
+    → desk.next_delivery ≡ old.desk.next_delivery → IsToldBy schema old world
+    → IsToldBy schema (record old { desk = desk; steps = steps }) (record world { links = link ∷ world.links })
+with_link schema old world desk steps link closing given next delivery h =
+    let links : AllByRecursion (λ (m : ℕ). m < suc link) (link ∷ world.links) = (
+      omega arith,
+      later_links link world.links
+          (subst (λ n. AllByRecursion (λ (m : ℕ). m < n) world.links) (sym given) h.links),
+    ) in
+    with_subscriptions schema old (record old { desk = desk; steps = steps }) world
+    (record world { links = link ∷ world.links }) (h.closing ∙ sym closing) h.ends h.deliveries
+    (subst (λ n. AllByRecursion (λ (m : ℕ). m < n) (link ∷ world.links)) (sym next) links)
+    (subst (λ n. AllByRecursion (AreBelow n) world.subscribers) (sym delivery) h.numbers) h.bases h

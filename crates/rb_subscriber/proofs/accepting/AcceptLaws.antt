@@ -144,6 +144,14 @@ abbrev tested : Endpoint → List Entry → Delivery → Result Endpoint AcceptR
 tested old entries delivery =
     applied_if_admitted old delivery.last entries (first_outside_entry old.tables.schema entries)
 
+-- the function, of a delivery that isn't refused before its entries are asked
+pub asked_of : (old : Endpoint) (entries : List Entry) (delivery : Delivery) (o : Option Entry)
+    → refusal_before old delivery ≡ None → first_outside_entry old.tables.schema entries ≡ o
+    → accept_brought old entries delivery ≡ applied_if_admitted old delivery.last entries o
+unfolding accept_brought
+asked_of old entries delivery o free is = ap (λ r. taken_unless_refused r (tested old entries delivery)) free
+    ∙ ap (applied_if_admitted old delivery.last entries) is
+
 pub accepted_steps : (old : Endpoint) (entries : List Entry) (delivery : Delivery) (new : Endpoint)
     → accept_brought old entries delivery ≡ Ok new → AcceptsBrought old entries delivery new
 unfolding accept_brought
@@ -164,7 +172,6 @@ accepted_steps old entries delivery new e =
 
 pub steps_accepted : (old : Endpoint) (entries : List Entry) (delivery : Delivery) (new : Endpoint)
     → AcceptsBrought old entries delivery new → accept_brought old entries delivery ≡ Ok new
-unfolding accept_brought
 steps_accepted old entries delivery new a =
     let due : FollowsCursor old delivery = record {
       not_fallen = a.not_fallen;
@@ -173,6 +180,6 @@ steps_accepted old entries delivery new a =
       next = a.next;
       some = a.some;
     } in
-    ap (λ o. taken_unless_refused o (tested old entries delivery)) (due_is_none old delivery due)
-    ∙ ap (applied_if_admitted old delivery.last entries) (none_outside old.tables.schema entries a.admitted)
+    asked_of old entries delivery None (due_is_none old delivery due)
+    (none_outside old.tables.schema entries a.admitted)
     ∙ ap (applied old delivery.last) a.tables ∙ ap (λ x. Ok x) (sym a.kept)

@@ -14,7 +14,7 @@ use Rattle.rb_desk.specs.declared.delivery.Delivery.{Delivery}
 use Rattle.rb_sequence.specs.Cells.{AreInCells, Cells, CellToken}
 use Rattle.rb_sequence.specs.Entry.{Entry}
 use Rattle.rb_subscriber.specs.Accept.{HasSingleTables, accept_brought, applied, applied_if_admitted, first_outside_entry}
-use Rattle.rb_subscriber.specs.Accept.{joined_bodies, refusal_before, taken_unless_refused}
+use Rattle.rb_subscriber.specs.Accept.{joined_bodies, refusal_before}
 use Rattle.rb_subscriber.specs.AcceptShown.{DueAnswers}
 use Rattle.rb_subscriber.specs.Durable.{Falls, IsPendingOver, KeptAnswers}
 use Rattle.rb_subscriber.specs.Endpoint.{Endpoint}
@@ -24,7 +24,7 @@ use Rattle.rb_subscriber.specs.declared.refusal.AcceptRefusal.{AcceptRefusal}
 use Rattle.rb_subscriber.specs.declared.refusal.AcceptRefusal.TheVariants as refusal
 use Rattle.rb_subscriber.specs.declared.refusal.SubscriptionError.{SubscriptionError}
 use Rattle.rb_subscriber.specs.declared.refusal.SubscriptionError.TheVariants.{Refused}
-use Rattle.rb_subscriber.proofs.accepting.AcceptLaws.{none_is_due}
+use Rattle.rb_subscriber.proofs.accepting.AcceptLaws.{asked_of, none_is_due}
 use Rattle.rb_subscriber.proofs.accepting.ShownLaws.{own_as, singly_on, state_of}
 
 -- ---- what isn't refused has nothing pending
@@ -55,11 +55,9 @@ admitted_no_store old last entries (Some entry) e = absurd cc
 
 no_store : (old : Endpoint) (entries : List Entry) (d : Delivery) → refusal_before old d ≡ None
     → accept_brought old entries d ≡ Err refusal.Store → ⊥
-unfolding accept_brought
 no_store old entries d free e =
-    let taken = ap (λ o. taken_unless_refused o (applied_if_admitted old d.last entries
-    (first_outside_entry old.tables.schema entries))) free in
-    admitted_no_store old d.last entries (first_outside_entry old.tables.schema entries) (sym taken ∙ e)
+    let outside = first_outside_entry old.tables.schema entries in
+    admitted_no_store old d.last entries outside (sym (asked_of old entries d outside free refl) ∙ e)
 
 -- so the answers without a store are those with one that doesn't fail
 pub due_kept : (cells : Cells) (d : Delivery) (result : Result ℕ SubscriptionError) (old new : SubscriptionState)

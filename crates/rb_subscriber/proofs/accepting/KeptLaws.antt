@@ -12,11 +12,12 @@ use Rattle.par_apply.specs.RowChanges.{RowChanges}
 use Rattle.rb_desk.specs.declared.delivery.Delivery.{Delivery}
 use Rattle.rb_sequence.specs.Entry.{Entry}
 use Rattle.rb_subscriber.specs.Accept.{AppliesSingly, AreChangesets, AsksTables, ConflictsSingly, HasSingleTables, applied}
-use Rattle.rb_subscriber.specs.Accept.{accept_brought, applied_if_admitted, first_outside_entry, joined_bodies}
-use Rattle.rb_subscriber.specs.Accept.{refusal_before, taken_unless_refused}
+use Rattle.rb_subscriber.specs.Accept.{accept_brought, first_outside_entry, joined_bodies}
+use Rattle.rb_subscriber.specs.Accept.{refusal_before}
 use Rattle.rb_subscriber.specs.Durable.{IfStoreFailed, IfStoreUnasked, IsNoRefusal, KeepAnswers}
 use Rattle.rb_subscriber.specs.Durable.{OnKeepConflict, OnKeepTables}
 use Rattle.rb_subscriber.specs.Endpoint.{Endpoint}
+use Rattle.rb_subscriber.proofs.accepting.AcceptLaws.{asked_of}
 use Rattle.rb_subscriber.specs.declared.keeping.KeepError.{KeepError}
 use Rattle.rb_subscriber.specs.declared.keeping.KeepError.TheVariants as keep
 use Rattle.rb_subscriber.specs.declared.refusal.AcceptRefusal.{AcceptRefusal}
@@ -27,11 +28,7 @@ use Rattle.rb_subscriber.specs.declared.refusal.AcceptRefusal.TheVariants as ref
 pub asked : (old : Endpoint) (entries : List Entry) (d : Delivery) (r : Result TableState Conflict)
     → refusal_before old d ≡ None → first_outside_entry old.tables.schema entries ≡ None
     → single old.tables (group_of (joined_bodies entries)) ≡ r → accept_brought old entries d ≡ applied old d.last r
-unfolding accept_brought
-asked old entries d r free none is =
-    ap (λ o. taken_unless_refused o (applied_if_admitted old d.last entries
-    (first_outside_entry old.tables.schema entries))) free
-    ∙ ap (applied_if_admitted old d.last entries) none ∙ ap (applied old d.last) is
+asked old entries d r free none is = asked_of old entries d None free none ∙ ap (applied old d.last) is
 
 -- ---- the call
 

@@ -12,8 +12,7 @@ use Rattle.cs_apply.specs.declared.conflict.Conflict.{Conflict}
 use Rattle.cs_group.specs.Group.{group_of}
 use Rattle.cs_model.specs.declared.shape.Shape.{Shape}
 use Rattle.rb_subscriber.specs.Accept.{accept_brought, AcceptsBrought, AppliesSingly, AsksTables, HasSingleTables, applied}
-use Rattle.rb_subscriber.specs.Accept.{applied_if_admitted, first_outside_entry, joined_bodies, refusal_before}
-use Rattle.rb_subscriber.specs.Accept.{taken_unless_refused}
+use Rattle.rb_subscriber.specs.Accept.{first_outside_entry, joined_bodies, refusal_before}
 use Rattle.rb_subscriber.specs.declared.refusal.AcceptRefusal.TheVariants as refusal
 use Rattle.rb_subscriber.specs.Endpoint.{Endpoint}
 use Rattle.rb_subscriber.specs.declared.refusal.SubscriptionError.{SubscriptionError}
@@ -22,7 +21,7 @@ use Rattle.rb_subscriber.specs.AcceptShown.{DueAnswers, LookAnswers}
 use Rattle.rb_sequence.specs.Cells.{AreInCells}
 use Rattle.rb_subscriber.specs.Shown.{ShowDelivery, entries_told}
 use Rattle.rb_subscriber.specs.Subscription.{PendingAccept, SubscriptionState, own_endpoint}
-use Rattle.rb_subscriber.proofs.accepting.AcceptLaws.{accepted_steps}
+use Rattle.rb_subscriber.proofs.accepting.AcceptLaws.{accepted_steps, asked_of}
 use Rattle.rb_subscriber.proofs.accepting.TokenLaws.{in_cells_append}
 
 -- what applies singly applies in two parts
@@ -74,31 +73,39 @@ shown_kept cells base told shown delivery old new cursor tokens singly are accep
       singly = singly_on base told shown old.tables new.tables singly goes;
     }
 
--- all of it, where the entries stand elsewhere
+-- all of it, where the cells and the entries stand elsewhere
 pub record WasAccepted (cells : Cells) (d : Delivery) (base : tables.TableState) (told shown grown : List CellToken)
     (e new : Endpoint) : Type 0 where
+  pub more : grown ≡ told ++ shown
+  pub are : ShowDelivery cells d shown
   pub ok : accept_brought e (entries_told shown) d ≡ Ok new
   pub accepts : AcceptsBrought e (entries_told shown) d new
-  pub kept : ShownKept cells base told shown new
   pub far : new.cursor ≡ new.start + length grown
+  pub tokens : AreInCells cells (suc new.start) grown
+  pub singly : HasSingleTables base (entries_told grown) new.tables
 
-pub was_accepted : (cells : Cells) (d : Delivery) (base : tables.TableState) (told shown grown : List CellToken)
-    (entries : List Entry) (e new : Endpoint) → entries ≡ entries_told shown → grown ≡ told ++ shown
-    → e.cursor ≡ e.start + length told → AreInCells cells (suc e.start) told
-    → HasSingleTables base (entries_told told) e.tables → ShowDelivery cells d shown
+pub was_accepted : (cells sequence : Cells) (d : Delivery) (base : tables.TableState)
+    (told held shown grown : List CellToken) (entries : List Entry) (e new : Endpoint) → sequence ≡ cells
+    → ShowDelivery sequence d shown → held ≡ told → grown ≡ held ++ shown → entries ≡ entries_told shown
     → accept_brought e entries d ≡ Ok new → HasSingleTables e.tables entries new.tables
-    → WasAccepted cells d base told shown grown e new
-was_accepted cells d base told shown grown entries e new back more at tokens singly are ok goes =
+    → e.cursor ≡ e.start + length told → AreInCells cells (suc e.start) told
+    → HasSingleTables base (entries_told told) e.tables → WasAccepted cells d base told shown grown e new
+was_accepted cells sequence d base told held shown grown entries e new same shows kept added back ok goes at tokens singly =
+    let more : grown ≡ told ++ shown = added ∙ ap (λ (xs : List CellToken). xs ++ shown) kept in
+    let are = subst (λ cs. ShowDelivery cs d shown) same shows in
     let here : accept_brought e (entries_told shown) d ≡ Ok new =
     subst (λ es. accept_brought e es d ≡ Ok new) back ok in
     let accepts = accepted_steps e (entries_told shown) d new here in
-    let kept = shown_kept cells base told shown d e new at tokens singly are accepts
+    let all = shown_kept cells base told shown d e new at tokens singly are accepts
     (subst (λ es. HasSingleTables e.tables es new.tables) back goes) in
     record {
+      more = more;
+      are = are;
       ok = here;
       accepts = accepts;
-      kept = kept;
-      far = kept.cursor ∙ ap (λ (xs : List CellToken). new.start + length xs) (sym more);
+      far = all.cursor ∙ ap (λ (xs : List CellToken). new.start + length xs) (sym more);
+      tokens = subst (λ xs. AreInCells cells (suc new.start) xs) (sym more) all.tokens;
+      singly = subst (λ (xs : List CellToken). HasSingleTables base (entries_told xs) new.tables) (sym more) all.singly;
     }
 
 -- ---- the answers
@@ -145,28 +152,20 @@ pub own_as : (sub steps : ℕ) (base : tables.TableState) (pending : Option Pend
 own_as sub steps base pending e told at fell = end_as e (e.start + length told) (is_some pending) at fell
 
 pub due_ok : (cells : Cells) (d : Delivery) (sub steps cursor : ℕ) (base : tables.TableState)
-    (pending : Option PendingAccept)
-    (told grown shown : List CellToken) (e new : Endpoint) → grown ≡ told ++ shown
-    → e.cursor ≡ e.start + length told
-    → e.fallen ≡ is_some pending
-    → ShowDelivery cells d shown
-    → accept_brought e (entries_told shown) d ≡ Ok new
-    → cursor ≡ new.cursor
-    → AcceptsBrought e (entries_told shown) d new
-    → ShownKept cells base told shown new
+    (pending : Option PendingAccept) (told grown shown : List CellToken) (e new : Endpoint)
+    → WasAccepted cells d base told shown grown e new → e.cursor ≡ e.start + length told
+    → e.fallen ≡ is_some pending → cursor ≡ new.cursor
     → DueAnswers cells d (Ok cursor) (state_of sub steps base pending e told) (state_of sub steps base pending new grown)
-due_ok cells d sub steps cursor base pending told grown shown e new more at fell are ok says accepts kept =
-    let far : new.cursor ≡ new.start + length grown =
-    kept.cursor ∙ ap (λ xs. new.start + length xs) (sym more) in
-    let same : new.fallen ≡ is_some pending = ap (λ (x : Endpoint). x.fallen) accepts.kept ∙ fell in
+due_ok cells d sub steps cursor base pending told grown shown e new was at fell says =
+    let same : new.fallen ≡ is_some pending = ap (λ (x : Endpoint). x.fallen) was.accepts.kept ∙ fell in
     let from = own_as sub steps base pending e told at fell in
-    let to = own_as sub steps base pending new grown far same in (
+    let to = own_as sub steps base pending new grown was.far same in (
       shown,
-      are,
-      ap (λ (x : Endpoint). accept_brought x (entries_told shown) d) from ∙ ok ∙ ap (λ x. Ok x) (sym to),
-      says ∙ far,
-      ap (λ (x : Endpoint). as_state x grown) accepts.kept
-          ∙ ap (λ xs. as_state e xs) more,
+      was.are,
+      ap (λ (x : Endpoint). accept_brought x (entries_told shown) d) from ∙ was.ok ∙ ap (λ x. Ok x) (sym to),
+      says ∙ was.far,
+      ap (λ (x : Endpoint). as_state x grown) was.accepts.kept
+          ∙ ap (λ xs. as_state e xs) was.more,
     )
   where
     as_state : Endpoint → List CellToken → SubscriptionState
@@ -188,21 +187,9 @@ applied_asks old last (Err conflict) = tt
 
 reaches_tables : (old : Endpoint) (entries : List Entry) (d : Delivery) → refusal_before old d ≡ None
     → first_outside_entry old.tables.schema entries ≡ None → AsksTables (accept_brought old entries d)
-unfolding accept_brought
 reaches_tables old entries d free none =
-    let taken = ap (λ o. taken_unless_refused o (applied_if_admitted old d.last entries
-    (first_outside_entry old.tables.schema entries))) free
-    ∙ ap (applied_if_admitted old d.last entries) none in
-    subst AsksTables (sym taken) (applied_asks old d.last (single old.tables (group_of (joined_bodies entries))))
-
-outside_refused : (old : Endpoint) (entries : List Entry) (d : Delivery) (entry : Entry) → refusal_before old d ≡ None
-    → first_outside_entry old.tables.schema entries ≡ Some entry
-    → accept_brought old entries d ≡ Err (refusal.Shape entry.number)
-unfolding accept_brought
-outside_refused old entries d entry free some =
-    ap (λ o. taken_unless_refused o (applied_if_admitted old d.last entries
-    (first_outside_entry old.tables.schema entries))) free
-    ∙ ap (applied_if_admitted old d.last entries) some
+    subst AsksTables (sym (asked_of old entries d None free none))
+    (applied_asks old d.last (single old.tables (group_of (joined_bodies entries))))
 
 looked_answers : (cells : Cells) (d : Delivery) (old new : SubscriptionState) (e : SubscriptionError)
     → refusal_before (own_endpoint old) d ≡ None → new ≡ old → LookAnswers cells d old.tables.schema e
@@ -214,7 +201,7 @@ looked_answers cells d old new (Refused (refusal.Shape number)) free same look =
   same,
   look.0,
   look.1,
-  outside_refused (own_endpoint old) (entries_told look.0) d look.2.0 free look.2.1
+  asked_of (own_endpoint old) (entries_told look.0) d (Some look.2.0) free look.2.1
       ∙ ap (λ n. Err (refusal.Shape n)) look.2.2,
 )
 looked_answers cells d old new (Refused refusal.Store) free same look = absurd look

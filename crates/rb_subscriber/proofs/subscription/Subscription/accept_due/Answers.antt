@@ -1,14 +1,12 @@
-use Rattle.std.proofs.Common.{◌≡◌, ◌++◌, suc, Err, sym, ap, ◌∙◌, subst, List}
+use Rattle.std.proofs.Common.{Err, sym, ap, ◌∙◌, subst}
 use Rattle.std.proofs.lemmas.Result.{err_from_is_err_and}
 use Rattle.cs_apply.specs.State.{TableState}
-use Rattle.rb_sequence.specs.Cells.{AreInCells, CellToken}
-use Rattle.rb_subscriber.specs.Accept.{HasSingleTables}
 use Rattle.rb_subscriber.specs.Endpoint.{Endpoint}
-use Rattle.rb_subscriber.specs.Shown.{AreTokens, ShowDelivery, entries_told}
+use Rattle.rb_subscriber.specs.Shown.{AreTokens, entries_told}
 use Rattle.rb_subscriber.specs.Subscription.{SubscriptionState}
 use Rattle.rb_subscriber.specs.declared.refusal.SubscriptionError.{SubscriptionError}
 use Rattle.rb_subscriber.proofs.accepting.FallLaws.{if_none}
-use Rattle.rb_subscriber.proofs.accepting.ShownLaws.{due_ok, looked_result, state_of, was_accepted}
+use Rattle.rb_subscriber.proofs.accepting.ShownLaws.{WasAccepted, due_ok, looked_result, state_of, was_accepted}
 use Rattle.rb_subscriber.proofs.accepting.TokenLaws.{tokens_by_place}
 use Rattle.rb_subscriber.proofs.subscription.Subscription.accept_due.Goals as goal
 
@@ -30,43 +28,36 @@ invariant_of-entries g c = record {
       (tokens_by_place c.args.sequence.now c.args.delivery.now.first c.in_ok-shown.shown.items c.in_ok-shown.ensures.ok.0);
 }
 
+-- the delivery was accepted
+accepted : (g : _) (c : goal.After-add g) → WasAccepted g.L.StepLedger.cells c.args.delivery.now c.self.inside.base
+    c.self.inside.told.items c.in_ok-shown.shown.items c.add.new.told.items c.self.inside.end c.accept_brought.new.self
+accepted g c =
+    let s = c.self.inside in
+    was_accepted g.L.StepLedger.cells c.args.sequence.now c.args.delivery.now s.base s.told.items
+    c.tokens_of.new.told.items c.in_ok-shown.shown.items c.add.new.told.items _ s.end c.accept_brought.new.self
+    c.requires.cells c.in_ok-shown.ensures.ok c.tokens_of.ensures.same c.add.ensures
+    (ap entries_told c.deref.ensures.value) c.in-Ok.ensures.answers.0 c.in-Ok.ensures.singly c.self.invariant.0
+    c.self.invariant.1 c.self.invariant.2
+
 pub invariant_of-self-in-Ok : goal.invariant_of-self-in-Ok
 invariant_of-self-in-Ok g c =
-    let cells = g.L.StepLedger.cells in
-    let d = c.args.delivery.now in
-    let s = c.self.inside in
-    let new = c.accept_brought.new.self in
-    let shown = c.in_ok-shown.shown.items in
+    let was = accepted g c in
     let inv = c.self.invariant in
-    let none = ap (λ (x : SubscriptionState). x.pending) c.self.view_is ∙ c.requires.none in
-    let more : c.add.new.told.items ≡ s.told.items ++ shown =
-    c.add.ensures ∙ ap (λ (xs : List CellToken). xs ++ shown) c.tokens_of.ensures.same in
-    let are = subst (λ cs. ShowDelivery cs d shown) c.requires.cells c.in_ok-shown.ensures.ok in
-    let was = was_accepted cells d s.base s.told.items shown c.add.new.told.items _ s.end new
-    (ap entries_told c.deref.ensures.value) more inv.0 inv.1 inv.2 are c.in-Ok.ensures.answers.0 c.in-Ok.ensures.singly in (
+    let none = ap (λ (x : SubscriptionState). x.pending) c.self.view_is ∙ c.requires.none in (
       was.far,
-      subst (λ xs. AreInCells cells (suc new.start) xs) (sym more) was.kept.tokens,
-      subst (λ (xs : List CellToken). HasSingleTables s.base (entries_told xs) new.tables) (sym more) was.kept.singly,
+      was.tokens,
+      was.singly,
       ap (λ (x : Endpoint). x.fallen) was.accepts.kept ∙ inv.3,
-      if_none s.pending _ none,
-      if_none s.pending _ none,
+      if_none c.self.inside.pending _ none,
+      if_none c.self.inside.pending _ none,
       inv.6,
       inv.7,
     )
 
 pub returns-in-Ok-clause-answers : goal.returns-in-Ok-clause-answers
 returns-in-Ok-clause-answers g c =
-    let cells = g.L.StepLedger.cells in
-    let d = c.args.delivery.now in
     let s = c.self.inside in
-    let new = c.accept_brought.new.self in
-    let shown = c.in_ok-shown.shown.items in
-    let inv = c.self.invariant in
-    let more : c.add.new.told.items ≡ s.told.items ++ shown =
-    c.add.ensures ∙ ap (λ (xs : List CellToken). xs ++ shown) c.tokens_of.ensures.same in
-    let are = subst (λ cs. ShowDelivery cs d shown) c.requires.cells c.in_ok-shown.ensures.ok in
-    let was = was_accepted cells d s.base s.told.items shown c.add.new.told.items _ s.end new
-    (ap entries_told c.deref.ensures.value) more inv.0 inv.1 inv.2 are c.in-Ok.ensures.answers.0 c.in-Ok.ensures.singly in
     rw (← c.self.view_is)
-    (due_ok cells d s.sub s.steps c.in-Ok.cursor s.base s.pending s.told.items c.add.new.told.items shown s.end
-    new more inv.0 inv.3 are was.ok c.in-Ok.ensures.answers.1 was.accepts was.kept)
+    (due_ok g.L.StepLedger.cells c.args.delivery.now s.sub s.steps c.in-Ok.cursor s.base s.pending s.told.items
+    c.add.new.told.items c.in_ok-shown.shown.items s.end c.accept_brought.new.self (accepted g c) c.self.invariant.0
+    c.self.invariant.3 c.in-Ok.ensures.answers.1)
