@@ -8,8 +8,8 @@ use Rattle.replica_store.specs.Picture.{HoldsReplica, IsNewReplica}
 use Rattle.replica_store.specs.Reading.{HasTableColumns}
 
 -- this is so, where the disk returned what was written
-abbrev pub IfClean : (State → Type 0) → State → Type 0
-IfClean Is s = HasCleanDisk s → Is s
+abbrev pub WhereClean : (State → Type 0) → State → Type 0
+WhereClean Is s = HasCleanDisk s → Is s
 
 -- the same after a call that returned Ok
 abbrev pub Reaches : {T E : Type 0} → Result T E → (State → Type 0) → State → Type 0
@@ -24,12 +24,12 @@ abbrev pub AddsNone : State → State → Type 0
 AddsNone old new = Survives old new (λ _. ⊥)
 
 -- a crash leaves what is committed
-abbrev pub Stands : State → Type 0
-Stands s = (db : Trees) → s.may_leave db → db ≡ s.committed.trees
+abbrev pub LeavesCommitted : State → Type 0
+LeavesCommitted s = (db : Trees) → s.may_leave db → db ≡ s.committed.trees
 
 -- an open connection has the columns of a replica's tables in each row
-abbrev pub HasColumns : State → Type 0
-HasColumns s = IsTrue s.is_open → HasTableColumns s.now.trees
+abbrev pub KeepsColumns : State → Type 0
+KeepsColumns s = IsTrue s.is_open → HasTableColumns s.now.trees
 
 -- a new replica is held
 abbrev pub HoldsNew : State → Type 0
@@ -41,7 +41,7 @@ HoldsCommit changes place old new = HoldsReplica new
     × Commits changes place old.committed.trees new.committed.trees
 
 -- a replica is held, as it was or with these changes and this cursor
-abbrev pub HoldsEither : RowChanges → ℕ → State → State → Type 0
-HoldsEither changes place old new = HoldsReplica new
+abbrev pub HoldsOneOf : RowChanges → ℕ → State → State → Type 0
+HoldsOneOf changes place old new = HoldsReplica new
     × ((new.committed.trees ≡ old.committed.trees)
     ⊎ Commits changes place old.committed.trees new.committed.trees)

@@ -7,7 +7,7 @@ ghost use Rattle.replica_store.specs.Changes.{AfterChange, AfterChanges, Commits
 ghost use Rattle.replica_store.specs.Inside.{IsInside, ChangesRows, SetsCursor};
 ghost use Rattle.replica_store.specs.Inside.{WithoutRow, WithBody};
 ghost use Rattle.replica_store.specs.Picture.{HoldsReplica};
-ghost use Rattle.replica_store.specs.Steps.{IfClean, Makes, AddsNone, HoldsCommit};
+ghost use Rattle.replica_store.specs.Steps.{WhereClean, Makes, AddsNone, HoldsCommit};
 
 use cs_model::RowKey;
 use par_apply::RowChange;
@@ -19,7 +19,7 @@ pub(crate) fn commit_once<S: Alter>(
     changes: &[RowChange],
     cursor: u64,
 ) -> Result<(), Error>
-    requires held { IfClean HoldsReplica (state S.Store conn.old) }
+    requires held { WhereClean HoldsReplica (state S.Store conn.old) }
     requires below { cursor < 2 ^ 63 }
     ensures ok { Makes result (HoldsCommit changes.now cursor)
         (state S.Store conn.old) (state S.Store conn.new) }
@@ -36,7 +36,7 @@ pub(crate) fn commit_once<S: Alter>(
 }
 
 fn change_all<S: Alter>(tx: &mut Transaction<'_, S>, changes: &[RowChange]) -> Result<(), Error>
-    requires { IfClean IsInside (state S.Store tx.old.conn.now) }
+    requires { WhereClean IsInside (state S.Store tx.old.conn.now) }
     ensures same_reference { tx.new.conn.ghost_name ≡ tx.old.conn.ghost_name }
     ensures changes { Makes result (ChangesRows (AfterChanges changes.now))
         (state S.Store tx.old.conn.now) (state S.Store tx.new.conn.now) }
@@ -49,7 +49,7 @@ fn change_all<S: Alter>(tx: &mut Transaction<'_, S>, changes: &[RowChange]) -> R
 }
 
 fn change_one<S: Alter>(tx: &mut Transaction<'_, S>, change: &RowChange) -> Result<(), Error>
-    requires { IfClean IsInside (state S.Store tx.old.conn.now) }
+    requires { WhereClean IsInside (state S.Store tx.old.conn.now) }
     ensures same_reference { tx.new.conn.ghost_name ≡ tx.old.conn.ghost_name }
     ensures changes { Makes result (ChangesRows (AfterChange change.now))
         (state S.Store tx.old.conn.now) (state S.Store tx.new.conn.now) }
@@ -63,7 +63,7 @@ fn change_one<S: Alter>(tx: &mut Transaction<'_, S>, change: &RowChange) -> Resu
 }
 
 fn take_out<S: Alter>(tx: &mut Transaction<'_, S>, key: &RowKey) -> Result<usize, Error>
-    requires { IfClean IsInside (state S.Store tx.old.conn.now) }
+    requires { WhereClean IsInside (state S.Store tx.old.conn.now) }
     ensures same_reference { tx.new.conn.ghost_name ≡ tx.old.conn.ghost_name }
     ensures changes { Makes result (ChangesRows (WithoutRow key.now))
         (state S.Store tx.old.conn.now) (state S.Store tx.new.conn.now) }
@@ -78,7 +78,7 @@ fn take_out<S: Alter>(tx: &mut Transaction<'_, S>, key: &RowKey) -> Result<usize
 }
 
 fn put_in<S: Alter>(tx: &mut Transaction<'_, S>, key: &RowKey, body: &[u8]) -> Result<usize, Error>
-    requires { IfClean IsInside (state S.Store tx.old.conn.now) }
+    requires { WhereClean IsInside (state S.Store tx.old.conn.now) }
     ensures same_reference { tx.new.conn.ghost_name ≡ tx.old.conn.ghost_name }
     ensures changes { Makes result (ChangesRows (WithBody key.now body.now))
         (state S.Store tx.old.conn.now) (state S.Store tx.new.conn.now) }
@@ -100,7 +100,7 @@ fn table_number(key: &RowKey) -> Result<i64, Error>
 }
 
 fn set_cursor<S: Alter>(tx: &mut Transaction<'_, S>, cursor: u64) -> Result<usize, Error>
-    requires inside { IfClean IsInside (state S.Store tx.old.conn.now) }
+    requires inside { WhereClean IsInside (state S.Store tx.old.conn.now) }
     requires below { cursor < 2 ^ 63 }
     ensures same_reference { tx.new.conn.ghost_name ≡ tx.old.conn.ghost_name }
     ensures sets { Makes result (SetsCursor cursor)

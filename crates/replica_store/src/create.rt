@@ -7,7 +7,8 @@ ghost use Rattle.replica_store.specs.Inside.{IsBlankInside, HasRowTable, HasBoth
 ghost use Rattle.replica_store.specs.Inside.{IsNewInside};
 ghost use Rattle.replica_store.specs.Layout.{empty_schema};
 ghost use Rattle.replica_store.specs.Picture.{IsNewReplica};
-ghost use Rattle.replica_store.specs.Steps.{IfClean, Reaches, AddsNone, Stands, HoldsNew};
+ghost use Rattle.replica_store.specs.Steps.{WhereClean, Reaches, AddsNone, LeavesCommitted};
+ghost use Rattle.replica_store.specs.Steps.{HoldsNew};
 
 use sqlite::{Alter, Connection, Error, ErrorCode, Transaction};
 use sqlite_schema::schema::Schema;
@@ -16,7 +17,7 @@ use sqlite_schema::schema::Schema;
 pub(crate) fn create_once<S: Alter>(conn: &mut Connection<S>) -> Result<(), Error>
     ensures blank { OnOk result (conn.old.schema ≡ empty_schema) }
     ensures made { Reaches result HoldsNew (state S.Store conn.new) }
-    ensures stands { Reaches result Stands (state S.Store conn.new) }
+    ensures stands { Reaches result LeavesCommitted (state S.Store conn.new) }
     ensures survives { Survives (state S.Store conn.old) (state S.Store conn.new) IsNewReplica }
 {
     if !conn.is_autocommit() {
@@ -39,7 +40,7 @@ fn has_nothing(schema: &Schema) -> bool
 
 // both tables and the first mark
 fn make_all<S: Alter>(tx: &mut Transaction<'_, S>) -> Result<(), Error>
-    requires { IfClean IsBlankInside (state S.Store tx.old.conn.now) }
+    requires { WhereClean IsBlankInside (state S.Store tx.old.conn.now) }
     ensures same_reference { tx.new.conn.ghost_name ≡ tx.old.conn.ghost_name }
     ensures made { Reaches result IsNewInside (state S.Store tx.new.conn.now) }
     ensures survives { AddsNone (state S.Store tx.old.conn.now) (state S.Store tx.new.conn.now) }
@@ -51,7 +52,7 @@ fn make_all<S: Alter>(tx: &mut Transaction<'_, S>) -> Result<(), Error>
 }
 
 fn make_row_table<S: Alter>(tx: &mut Transaction<'_, S>) -> Result<usize, Error>
-    requires { IfClean IsBlankInside (state S.Store tx.old.conn.now) }
+    requires { WhereClean IsBlankInside (state S.Store tx.old.conn.now) }
     ensures same_reference { tx.new.conn.ghost_name ≡ tx.old.conn.ghost_name }
     ensures made { Reaches result HasRowTable (state S.Store tx.new.conn.now) }
     ensures survives { AddsNone (state S.Store tx.old.conn.now) (state S.Store tx.new.conn.now) }
@@ -64,7 +65,7 @@ fn make_row_table<S: Alter>(tx: &mut Transaction<'_, S>) -> Result<usize, Error>
 }
 
 fn make_mark_table<S: Alter>(tx: &mut Transaction<'_, S>) -> Result<usize, Error>
-    requires { IfClean HasRowTable (state S.Store tx.old.conn.now) }
+    requires { WhereClean HasRowTable (state S.Store tx.old.conn.now) }
     ensures same_reference { tx.new.conn.ghost_name ≡ tx.old.conn.ghost_name }
     ensures made { Reaches result HasBothTables (state S.Store tx.new.conn.now) }
     ensures survives { AddsNone (state S.Store tx.old.conn.now) (state S.Store tx.new.conn.now) }
@@ -76,7 +77,7 @@ fn make_mark_table<S: Alter>(tx: &mut Transaction<'_, S>) -> Result<usize, Error
 }
 
 fn put_first_mark<S: Alter>(tx: &mut Transaction<'_, S>) -> Result<usize, Error>
-    requires { IfClean HasBothTables (state S.Store tx.old.conn.now) }
+    requires { WhereClean HasBothTables (state S.Store tx.old.conn.now) }
     ensures same_reference { tx.new.conn.ghost_name ≡ tx.old.conn.ghost_name }
     ensures made { Reaches result IsNewInside (state S.Store tx.new.conn.now) }
     ensures survives { AddsNone (state S.Store tx.old.conn.now) (state S.Store tx.new.conn.now) }

@@ -11,7 +11,7 @@ ghost use Rattle.sqlite.specs.State.{HasCleanDisk};
 ghost use Rattle.replica_store.specs.Changes.{Commits};
 ghost use Rattle.replica_store.specs.Loading.{TableBodies};
 ghost use Rattle.replica_store.specs.Picture.{AreSameRows, HoldsReplica, Stores};
-ghost use Rattle.replica_store.specs.Steps.{IfClean, HoldsEither};
+ghost use Rattle.replica_store.specs.Steps.{WhereClean, HoldsOneOf};
 ghost use Rattle.sqlite.specs.Tree.{Trees};
 
 use crate::replica::Replica;
@@ -39,10 +39,10 @@ pub fn commit_and_crash<S: Alter + Reopen + Drop>(
     changes: &[RowChange],
     cursor: u64,
 ) -> Option<Replica<S>>
-    requires held { IfClean HoldsReplica (state S.Store replica.conn) }
+    requires held { WhereClean HoldsReplica (state S.Store replica.conn) }
     requires below { cursor < 2 ^ 63 }
-    ensures { IfSome result (λ again. IfClean
-        (HoldsEither changes.now cursor (state S.Store replica.conn)) (state S.Store again.conn)) }
+    ensures { IfSome result (λ again. WhereClean
+        (HoldsOneOf changes.now cursor (state S.Store replica.conn)) (state S.Store again.conn)) }
 {
     let _ = replica.commit(changes, cursor);
     crash_and_open(alloc, replica)
@@ -90,10 +90,10 @@ pub fn commit_and_open<S: Alter + Drop>(
     changes: &[RowChange],
     cursor: u64,
 ) -> Option<Replica<S>>
-    requires held { IfClean HoldsReplica (state S.Store replica.conn) }
+    requires held { WhereClean HoldsReplica (state S.Store replica.conn) }
     requires below { cursor < 2 ^ 63 }
-    ensures { IfSome result (λ again. IfClean
-        (HoldsEither changes.now cursor (state S.Store replica.conn)) (state S.Store again.conn)) }
+    ensures { IfSome result (λ again. WhereClean
+        (HoldsOneOf changes.now cursor (state S.Store replica.conn)) (state S.Store again.conn)) }
 {
     let _ = replica.commit(changes, cursor);
     let (conn, schema) = replica.into_parts();

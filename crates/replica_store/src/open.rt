@@ -7,7 +7,7 @@ ghost use Rattle.sqlite.specs.State.{HasCleanDisk, IsUnchanged};
 ghost use Rattle.replica_store.specs.Layout.{replica_schema};
 ghost use Rattle.replica_store.specs.Picture.{HasCursor, HoldsReplica, IsReplica};
 ghost use Rattle.replica_store.specs.Reading.{AreRowRecords, HasTableColumns, is_shown_record};
-ghost use Rattle.replica_store.specs.Steps.{IfClean, Makes, AddsNone, HasColumns};
+ghost use Rattle.replica_store.specs.Steps.{WhereClean, Makes, AddsNone, KeepsColumns};
 ghost use Rattle.replica_store.specs.declared.error.ReplicaError.TheVariants.{Unusable};
 
 use crate::error::{ReplicaError, reported};
@@ -59,7 +59,7 @@ pub(crate) fn check<S: Alter>(conn: &mut Connection<S>) -> Result<(), ReplicaErr
 // whether what the tables store is a replica
 fn is_replica<S: Alter>(conn: &mut Connection<S>) -> Result<bool, ReplicaError>
     requires schema { HasCleanDisk (state S.Store conn.old) → conn.old.schema ≡ replica_schema }
-    requires columns { IfClean HasColumns (state S.Store conn.old) }
+    requires columns { WhereClean KeepsColumns (state S.Store conn.old) }
     ensures fits { HasCleanDisk (state S.Store conn.new) → IfOk result (λ fits.
         IsTrue fits ↔ IsReplica (state S.Store conn.old).now.trees) }
     ensures same { Makes result IsUnchanged (state S.Store conn.old) (state S.Store conn.new) }
@@ -74,7 +74,7 @@ fn is_replica<S: Alter>(conn: &mut Connection<S>) -> Result<bool, ReplicaError>
 // whether each stored row has a table's number, a key and a body
 fn has_records<S: Alter>(conn: &mut Connection<S>) -> Result<bool, ReplicaError>
     requires schema { HasCleanDisk (state S.Store conn.old) → conn.old.schema ≡ replica_schema }
-    requires columns { IfClean HasColumns (state S.Store conn.old) }
+    requires columns { WhereClean KeepsColumns (state S.Store conn.old) }
     ensures fits { HasCleanDisk (state S.Store conn.new) → IfOk result (λ fits.
         IsTrue fits ↔ AreRowRecords ((state S.Store conn.old).now.trees 0)) }
     ensures same { Makes result IsUnchanged (state S.Store conn.old) (state S.Store conn.new) }
@@ -100,7 +100,7 @@ fn is_record(row: &Row) -> bool
 // whether there is one mark, with the id 1 and a place
 fn has_mark<S: Alter>(conn: &mut Connection<S>) -> Result<bool, ReplicaError>
     requires schema { HasCleanDisk (state S.Store conn.old) → conn.old.schema ≡ replica_schema }
-    requires columns { IfClean HasColumns (state S.Store conn.old) }
+    requires columns { WhereClean KeepsColumns (state S.Store conn.old) }
     ensures fits { HasCleanDisk (state S.Store conn.new) → IfOk result (λ fits.
         IsTrue fits ↔ ((place : ℕ) × HasCursor (state S.Store conn.old).now.trees place)) }
     ensures same { Makes result IsUnchanged (state S.Store conn.old) (state S.Store conn.new) }

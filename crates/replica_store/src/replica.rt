@@ -11,8 +11,8 @@ ghost use Rattle.std.specs.FinMap as map;
 ghost use Rattle.replica_store.specs.Durable.{KeepsRows};
 ghost use Rattle.replica_store.specs.Loading.{LoadsRows, AreSchemaRows};
 ghost use Rattle.replica_store.specs.Picture.{HasCursor, HoldsReplica, IsNewReplica, Stores};
-ghost use Rattle.replica_store.specs.Steps.{IfClean, Reaches, Makes, AddsNone, Stands, HoldsNew};
-ghost use Rattle.replica_store.specs.Steps.{HoldsCommit};
+ghost use Rattle.replica_store.specs.Steps.{WhereClean, Reaches, Makes, AddsNone, LeavesCommitted};
+ghost use Rattle.replica_store.specs.Steps.{HoldsCommit, HoldsNew};
 ghost use Rattle.replica_store.specs.declared.error.ReplicaError.TheVariants.{Unusable};
 
 use crate::commit::commit_once;
@@ -42,8 +42,8 @@ impl<S: Alter + Drop> Replica<S> {
     /// anything is in the database's schema, or a transaction is open.
     pub fn create(mut conn: Connection<S>, schema: Arc<Schema>) -> Result<Replica<S>, ReplicaError>
         ensures blank { IfOk result (λ r. (conn.schema ≡ empty_schema) × (r.schema ≡ schema)) }
-        ensures made { IfOk result (λ r. IfClean HoldsNew (state S.Store r.conn)) }
-        ensures stands { IfOk result (λ r. IfClean Stands (state S.Store r.conn)) }
+        ensures made { IfOk result (λ r. WhereClean HoldsNew (state S.Store r.conn)) }
+        ensures stands { IfOk result (λ r. WhereClean LeavesCommitted (state S.Store r.conn)) }
         ensures survives { IfOk result (λ r.
             Survives (state S.Store conn) (state S.Store r.conn) IsNewReplica) }
         ensures keeps { IfOk result (λ r. KeepsRows (state S.Store r.conn) map.empty 0) }
@@ -74,11 +74,11 @@ impl<S: Alter> Replica<S> {
     /// returns, a crash leaves the rows and the cursor as before the call, or all of them as after
     /// it; after `Ok`, as after it. After an error, open the replica again: it has one of the two.
     pub fn commit(&mut self, changes: &[RowChange], cursor: u64) -> Result<(), ReplicaError>
-        requires held { IfClean HoldsReplica (state S.Store self.old.conn) }
+        requires held { WhereClean HoldsReplica (state S.Store self.old.conn) }
         requires below { cursor < 2 ^ 63 }
         ensures ok { Makes result (HoldsCommit changes.now cursor)
             (state S.Store self.old.conn) (state S.Store self.new.conn) }
-        ensures stands { Reaches result Stands (state S.Store self.new.conn) }
+        ensures stands { Reaches result LeavesCommitted (state S.Store self.new.conn) }
         ensures crash { HasCleanDisk (state S.Store self.new.conn)
             → (db : Trees) → (state S.Store self.new.conn).may_leave db
             → (db ≡ (state S.Store self.old.conn).committed.trees)
@@ -93,7 +93,7 @@ impl<S: Alter> Replica<S> {
 
     /// The stored cursor. Changes nothing.
     pub fn cursor(&mut self) -> Result<u64, ReplicaError>
-        requires { IfClean HoldsReplica (state S.Store self.old.conn) }
+        requires { WhereClean HoldsReplica (state S.Store self.old.conn) }
         ensures stored { HasCleanDisk (state S.Store self.new.conn)
             → IfOk result (HasCursor (state S.Store self.old.conn).committed.trees) }
         ensures same { Makes result IsUnchanged
@@ -113,7 +113,7 @@ impl<S: Alter> Replica<S> {
     /// The stored rows, as tables that keep every table of the schema, and the stored cursor.
     /// Answers `Unusable` if what is stored isn't rows of the schema. Changes nothing.
     pub fn load(&mut self, alloc: Global) -> Result<(Tables, u64), ReplicaError>
-        requires { IfClean HoldsReplica (state S.Store self.old.conn) }
+        requires { WhereClean HoldsReplica (state S.Store self.old.conn) }
         ensures rows { HasCleanDisk (state S.Store self.new.conn) → IfOk result (λ r.
             LoadsRows (arc_value self.old.schema)
             (Stores (state S.Store self.old.conn).committed.trees) r.0) }
@@ -135,7 +135,7 @@ impl<S: Alter> Replica<S> {
     }
 
     fn tables(&mut self, alloc: Global) -> Result<Tables, ReplicaError>
-        requires { IfClean HoldsReplica (state S.Store self.old.conn) }
+        requires { WhereClean HoldsReplica (state S.Store self.old.conn) }
         ensures rows { HasCleanDisk (state S.Store self.new.conn) → IfOk result
             (LoadsRows (arc_value self.old.schema)
             (Stores (state S.Store self.old.conn).committed.trees)) }

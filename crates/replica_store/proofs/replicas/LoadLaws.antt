@@ -39,9 +39,9 @@ puts_new_row old new key row none is = record {
 }
 
 -- the rows up to an item's place, and the item
-pub one_more : (all : List Row) (at : ℕ) (item : Row) → at < length all → item ≡ get_or all at item
+pub next_taken : (all : List Row) (at : ℕ) (item : Row) → at < length all → item ≡ get_or all at item
     → take (at + 1) all ≡ take at all ++ item ∷ []
-one_more all at item inside is = take_more all at item inside ∙ ap (λ x. take at all ++ x ∷ []) (sym is)
+next_taken all at item inside is = take_more all at item inside ∙ ap (λ x. take at all ++ x ∷ []) (sym is)
 
 some_body : {a b : List ℕ} → ◌≡◌ {A = Option (List ℕ)} (Some a) (Some b) → a ≡ b
 some_body e = cc
