@@ -1,3 +1,4 @@
 pub mod Steps
+pub mod Boxes
 pub mod AsBox
 pub mod AsSlot

@@ -1,3 +1,4 @@
+pub mod Boxed
 pub mod Codes
 pub mod Handle
 pub mod Messages

@@ -1,11 +1,10 @@
--- What a seal owns: what a box at its pointer would own, or nothing.
-use base.Fml.{Fml, ftrue}
+-- What a seal owns: a world's box, or nothing.
+use base.Fml.{Fml}
 use base.Stored.{Coded}
 use denote.RawPtr.{Ptr}
-use Rattle.std.specs.Prelude.{Bool, true, false, []}
-use Rattle.std.specs.Box.Ownership.{box_owns}
+use Rattle.std.specs.Prelude.{Bool, []}
 use Rattle.std.specs.Global.{Global}
-use Rattle.std_heap.specs.contracts.GlobalAllocator.TheImpl.{ghosts}
+use Rattle.broker_c.specs.Boxed.{owns_if}
 use Rattle.rb_core.specs.State.{empty_world}
 use Rattle.rb_core.specs.contracts.world.World.{the_row}
 
@@ -18,8 +17,7 @@ sealed_coded = the_row.coded
 
 -- what a seal owns, full or not
 abbrev pub seal_owns : Bool → Global → Ptr → SealedWorld → Fml
-seal_owns true alloc pointer held = box_owns (ghosts.dealloc_token alloc) the_row pointer held
-seal_owns false alloc pointer held = ftrue
+seal_owns = owns_if the_row
 
 -- what the ghost of an empty seal is: any world
 abbrev pub no_world : SealedWorld

@@ -40,65 +40,8 @@ pub fn code(reply: &Reply) -> i32
     match reply {
         Reply::Idle => 1,
         Reply::Fault(_) => -3,
-        Reply::Refused(why) => refusal_code(*why),
+        Reply::Refused(why) => refused(*why).0,
         _ => 0,
-    }
-}
-
-// The code of a refusal. What means the same in two layers has one code.
-fn refusal_code(why: BrokerRefusal) -> i32
-    ensures { result ≡ codes.refusal_code why }
-{
-    match why {
-        BrokerRefusal::NoPublisher => -10,
-        BrokerRefusal::TooMany => -11,
-        BrokerRefusal::Holding => -12,
-        BrokerRefusal::NothingStaged => -13,
-        BrokerRefusal::Closed => -14,
-        BrokerRefusal::Full => -15,
-        BrokerRefusal::NotPlaced => NOT_PLACED,
-        BrokerRefusal::NotYours => -17,
-        BrokerRefusal::AlreadyWithdrawn => -18,
-        BrokerRefusal::UnknownTable(_) => -20,
-        BrokerRefusal::ShapeDiffers(_) => -21,
-        BrokerRefusal::NoDelivery => -33,
-        BrokerRefusal::NotFallen => -44,
-        BrokerRefusal::Desk(why) => desk_code(why),
-        BrokerRefusal::Accept(why) => accept_code(why),
-    }
-}
-
-fn desk_code(why: DeskRefusal) -> i32
-    ensures { result ≡ codes.desk_code why }
-{
-    match why {
-        DeskRefusal::TooMany => -11,
-        DeskRefusal::Closed => -14,
-        DeskRefusal::SequenceFull => -19,
-        DeskRefusal::JournalFull => -22,
-        DeskRefusal::NoSuch => NO_SUBSCRIPTION,
-        DeskRefusal::StaleLink => -31,
-        DeskRefusal::WindowFull => -32,
-        DeskRefusal::NotInFlight => -34,
-        DeskRefusal::Drained { .. } => -36,
-        DeskRefusal::Empty { .. } => -37,
-        DeskRefusal::NotAccepted { .. } => -38,
-        DeskRefusal::BadCursor { .. } => -39,
-        DeskRefusal::StartAhead { .. } => -40,
-    }
-}
-
-fn accept_code(why: AcceptRefusal) -> i32
-    ensures { result ≡ codes.accept_code why }
-{
-    match why {
-        AcceptRefusal::Closed => -14,
-        AcceptRefusal::StaleLink => -31,
-        AcceptRefusal::Seen => -35,
-        AcceptRefusal::Gap { .. } => -41,
-        AcceptRefusal::Shape { .. } => -42,
-        AcceptRefusal::Conflict(_) => -43,
-        AcceptRefusal::Store => -45,
     }
 }
 
@@ -108,12 +51,13 @@ pub fn why_after(reply: &Reply, before: Why) -> Why
 {
     match reply {
         Reply::Fault(fault) => fault_why(*fault),
-        Reply::Refused(why) => refusal_why(*why),
+        Reply::Refused(why) => refused(*why).1,
         _ => before,
     }
 }
 
-fn numbers(first: u64, second: u64) -> Why
+/// These two numbers.
+pub fn numbers(first: u64, second: u64) -> Why
     ensures { result ≡ record { first = first; second = second } }
 {
     Why { first, second }
@@ -126,40 +70,73 @@ fn fault_why(fault: ParseFault) -> Why
     numbers(fault.at as u64, u64::from(fault.kind.number()))
 }
 
-fn refusal_why(why: BrokerRefusal) -> Why
-    ensures { result ≡ codes.refusal_why why }
+// The code and the numbers of a refusal. What means the same in two layers has one code.
+fn refused(why: BrokerRefusal) -> (i32, Why)
+    ensures code { result.0 ≡ codes.refusal_code why }
+    ensures why { result.1 ≡ codes.refusal_why why }
 {
     match why {
-        BrokerRefusal::UnknownTable(section) | BrokerRefusal::ShapeDiffers(section) => {
-            numbers(section, 0)
-        }
-        BrokerRefusal::Desk(why) => desk_why(why),
-        BrokerRefusal::Accept(why) => accept_why(why),
-        _ => numbers(0, 0),
+        BrokerRefusal::NoPublisher => coded(-10, 0, 0),
+        BrokerRefusal::TooMany => coded(-11, 0, 0),
+        BrokerRefusal::Holding => coded(-12, 0, 0),
+        BrokerRefusal::NothingStaged => coded(-13, 0, 0),
+        BrokerRefusal::Closed => coded(-14, 0, 0),
+        BrokerRefusal::Full => coded(-15, 0, 0),
+        BrokerRefusal::NotPlaced => coded(NOT_PLACED, 0, 0),
+        BrokerRefusal::NotYours => coded(-17, 0, 0),
+        BrokerRefusal::AlreadyWithdrawn => coded(-18, 0, 0),
+        BrokerRefusal::UnknownTable(section) => coded(-20, section, 0),
+        BrokerRefusal::ShapeDiffers(section) => coded(-21, section, 0),
+        BrokerRefusal::NoDelivery => coded(-33, 0, 0),
+        BrokerRefusal::NotFallen => coded(-44, 0, 0),
+        BrokerRefusal::Desk(why) => refused_by_desk(why),
+        BrokerRefusal::Accept(why) => refused_by_accept(why),
     }
 }
 
-fn desk_why(why: DeskRefusal) -> Why
-    ensures { result ≡ codes.desk_why why }
+fn refused_by_desk(why: DeskRefusal) -> (i32, Why)
+    ensures code { result.0 ≡ codes.desk_code why }
+    ensures why { result.1 ≡ codes.desk_why why }
 {
     match why {
-        DeskRefusal::Drained { last } => numbers(last, 0),
-        DeskRefusal::Empty { front } | DeskRefusal::StartAhead { front } => numbers(front, 0),
-        DeskRefusal::NotAccepted { cursor } => numbers(cursor, 0),
-        DeskRefusal::BadCursor { floor, offered } => numbers(floor, offered),
-        _ => numbers(0, 0),
+        DeskRefusal::TooMany => coded(-11, 0, 0),
+        DeskRefusal::Closed => coded(-14, 0, 0),
+        DeskRefusal::SequenceFull => coded(-19, 0, 0),
+        DeskRefusal::JournalFull => coded(-22, 0, 0),
+        DeskRefusal::NoSuch => coded(NO_SUBSCRIPTION, 0, 0),
+        DeskRefusal::StaleLink => coded(-31, 0, 0),
+        DeskRefusal::WindowFull => coded(-32, 0, 0),
+        DeskRefusal::NotInFlight => coded(-34, 0, 0),
+        DeskRefusal::Drained { last } => coded(-36, last, 0),
+        DeskRefusal::Empty { front } => coded(-37, front, 0),
+        DeskRefusal::NotAccepted { cursor } => coded(-38, cursor, 0),
+        DeskRefusal::BadCursor { floor, offered } => coded(-39, floor, offered),
+        DeskRefusal::StartAhead { front } => coded(-40, front, 0),
     }
 }
 
-fn accept_why(why: AcceptRefusal) -> Why
-    ensures { result ≡ codes.accept_why why }
+fn refused_by_accept(why: AcceptRefusal) -> (i32, Why)
+    ensures code { result.0 ≡ codes.accept_code why }
+    ensures why { result.1 ≡ codes.accept_why why }
 {
     match why {
-        AcceptRefusal::Gap { expected } => numbers(expected, 0),
-        AcceptRefusal::Shape { number } => numbers(number, 0),
+        AcceptRefusal::Closed => coded(-14, 0, 0),
+        AcceptRefusal::StaleLink => coded(-31, 0, 0),
+        AcceptRefusal::Seen => coded(-35, 0, 0),
+        AcceptRefusal::Gap { expected } => coded(-41, expected, 0),
+        AcceptRefusal::Shape { number } => coded(-42, number, 0),
         AcceptRefusal::Conflict(conflict) => {
-            numbers(conflict.position as u64, u64::from(conflict.kind.code()))
+            let kind = u64::from(conflict.kind.code());
+            coded(-43, conflict.position as u64, kind)
         }
-        _ => numbers(0, 0),
+        AcceptRefusal::Store => coded(-45, 0, 0),
     }
+}
+
+// a refusal's code and its numbers
+fn coded(code: i32, first: u64, second: u64) -> (i32, Why)
+    ensures code { result.0 ≡ code }
+    ensures why { result.1 ≡ record { first = first; second = second } }
+{
+    (code, numbers(first, second))
 }

@@ -37,43 +37,6 @@ impl Handle {
         }
     }
 
-    // a handle that holds no world
-    fn shut(alloc: Global, why: Why) -> Handle
-        ensures full { result.seal.full ≡ false }
-        ensures why { result.why ≡ why }
-    {
-        Handle {
-            is_open: false,
-            seal: Seal::none(alloc),
-            why,
-        }
-    }
-
-    // the world of a handle
-    fn into_world(self) -> Box<World>
-        requires { self.seal.full ≡ true }
-        ensures { box_value result ≡ self.seal.held }
-    {
-        let Handle {
-            is_open: _,
-            seal,
-            why: _,
-        } = self;
-        seal.into_parts().into_box()
-    }
-
-    // Ends a handle that holds no world.
-    fn end(self)
-        requires { self.seal.full ≡ false }
-    {
-        let Handle {
-            is_open: _,
-            seal,
-            why: _,
-        } = self;
-        seal.end();
-    }
-
     /// Whether the handle holds a world.
     pub fn is_open(&self) -> bool
         ensures { result ≡ self.now.seal.full }
@@ -95,8 +58,10 @@ impl Handle {
         ensures full { self.new.seal.full ≡ false }
         ensures why { self.new.why ≡ self.old.why }
     {
-        let why = self.why;
-        mem::replace(self, Handle::shut(alloc, why)).into_world()
+        self.is_open = false;
+        mem::replace(&mut self.seal, Seal::none(alloc))
+            .into_parts()
+            .into_box()
     }
 
     /// Puts a world into a handle that holds none, with these numbers.
@@ -106,7 +71,9 @@ impl Handle {
         ensures held { self.new.seal.held ≡ box_value world }
         ensures why { self.new.why ≡ why }
     {
-        mem::replace(self, Handle::of(world, why)).end();
+        self.is_open = true;
+        self.why = why;
+        mem::replace(&mut self.seal, Seal::of_parts(Parts::of(world))).end();
     }
 
     /// Applies an event to the world, and returns the reply. After a fault or a refusal the numbers

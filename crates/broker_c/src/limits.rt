@@ -3,7 +3,7 @@
 ghost use Rattle.std.specs.Prelude.{◌≡◌, IfErr, IfOk, None, Some};
 ghost use Rattle.broker_c.specs.Opening as opening;
 
-use crate::codes::Why;
+use crate::codes::{Why, numbers};
 use cs_model::{Seq, Shape, TableFault};
 use rb_core::{Config, ConfigFault};
 use std::alloc::{AllocError, Global};
@@ -64,14 +64,8 @@ pub fn table_why(fault: TableFault) -> Why
     ensures { result ≡ opening.table_why fault }
 {
     match fault {
-        TableFault::BadShape(place) => Why {
-            first: place as u64,
-            second: 0,
-        },
-        TableFault::DuplicateTable(place) => Why {
-            first: place as u64,
-            second: 1,
-        },
+        TableFault::BadShape(place) => numbers(place as u64, 0),
+        TableFault::DuplicateTable(place) => numbers(place as u64, 1),
     }
 }
 

@@ -7,7 +7,7 @@ ghost use Rattle.broker_c.specs.Handle.{IsShut};
 ghost use Rattle.broker_c.specs.Opening.{IsBegun, Opens, RefusesOpening, RefusesSchema, TellsWhy};
 ghost use Rattle.broker_c.specs.Opening as opening;
 
-use crate::codes::{BAD_LIMIT, BAD_TABLE, NO_MEMORY, SHUT, Why};
+use crate::codes::{BAD_LIMIT, BAD_TABLE, NO_MEMORY, SHUT, Why, numbers};
 use crate::handle::Handle;
 use crate::limits::{Limits, Table, config_of, place_of, shapes_of, table_why};
 use crate::parts::Parts;
@@ -45,10 +45,7 @@ fn schema_of(alloc: Global, tables: &[Table]) -> Result<Schema, OpenError>
         tables_refusal [] (opening.table_shapes tables.now) ≡ None) }
     ensures refused { IfErr result (λ error. RefusesSchema error tables.now) }
 {
-    match Schema::new(shapes_of(alloc, tables)?) {
-        Ok(schema) => Ok(schema),
-        Err(refused) => Err(OpenError::Table(refused.fault)),
-    }
+    Schema::new(shapes_of(alloc, tables)?).map_err(|refused| OpenError::Table(refused.fault))
 }
 
 // a handle over an empty world, in a box
@@ -56,11 +53,7 @@ fn begun(alloc: Global, config: Config, schema: Schema) -> Result<Box<Handle>, A
     ensures { IfOk result (λ broker. IsBegun config schema (box_value broker)) }
 {
     let world = Box::new(alloc, World::new(alloc, config, schema)?)?;
-    let why = Why {
-        first: 0,
-        second: 0,
-    };
-    Ok(Box::new(alloc, Handle::of(world, why))?)
+    Ok(Box::new(alloc, Handle::of(world, numbers(0, 0)))?)
 }
 
 pub(crate) fn opened(
@@ -105,10 +98,7 @@ pub extern "C" fn broker_open(
             0
         }
         Err(OpenError::Limit(fault)) => {
-            *why = Why {
-                first: place_of(fault),
-                second: 0,
-            };
+            *why = numbers(place_of(fault), 0);
             BAD_LIMIT
         }
         Err(OpenError::Table(fault)) => {

@@ -1,11 +1,11 @@
 //! Reads the world behind a handle.
 
 /// The value of `$tell`, which reads the world behind a handle as `$world`. The handle stays as it
-/// is. If it is shut, the function returns `$shut`.
+/// is. If it is shut, the function returns `SHUT`.
 macro_rules! told {
-    ($alloc:ident, $broker:ident, $shut:expr, |$world:ident| $tell:expr) => {{
+    ($alloc:ident, $broker:ident, |$world:ident| $tell:expr) => {{
         if !$broker.is_open() {
-            return $shut;
+            return $crate::codes::SHUT.into();
         }
         let why = $broker.why();
         let $world = $broker.take($alloc);

@@ -6,7 +6,7 @@ ghost use Rattle.std.specs.Option.{option_copied, option_map};
 ghost use Rattle.broker_c.specs.Rows.{HasTable, IsMade, IsTableThere, ReadsRow, ReadsRows};
 ghost use Rattle.broker_c.specs.Rows as texts;
 
-use crate::codes::{NO_MEMORY, NO_ROW, NO_SUBSCRIPTION, NO_TABLE, SHUT};
+use crate::codes::{NO_MEMORY, NO_ROW, NO_SUBSCRIPTION, NO_TABLE};
 use crate::handle::Handle;
 use crate::reading::told;
 use crate::row_texts::text_of_rows;
@@ -30,7 +30,6 @@ pub extern "C" fn broker_rows(
     told!(
         alloc,
         broker,
-        i64::from(SHUT),
         |world| rows_into(alloc, world.tables(subscription), out)
     )
 }
@@ -53,7 +52,6 @@ pub extern "C" fn broker_row(
     told!(
         alloc,
         broker,
-        i64::from(SHUT),
         |world| row_into(alloc, world.tables(subscription), table, key, out)
     )
 }

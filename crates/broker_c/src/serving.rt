@@ -91,18 +91,8 @@ fn number_after(reply: &Reply, before: u64) -> u64
         | Reply::Opened(number)
         | Reply::Expired(number)
         | Reply::Link(number) => *number,
-        Reply::Subscriber {
-            subscription,
-            link: _,
-        } => *subscription,
-        Reply::Accepted {
-            subscription: _,
-            cursor,
-        }
-        | Reply::Crashed {
-            subscription: _,
-            cursor,
-        } => *cursor,
+        Reply::Subscriber { subscription, .. } => *subscription,
+        Reply::Accepted { cursor, .. } | Reply::Crashed { cursor, .. } => *cursor,
         _ => before,
     }
 }
@@ -111,10 +101,7 @@ fn link_after(reply: &Reply, before: u64) -> u64
     ensures { result ≡ serving.link_after reply.now before }
 {
     match reply {
-        Reply::Subscriber {
-            subscription: _,
-            link,
-        } => *link,
+        Reply::Subscriber { link, .. } => *link,
         _ => before,
     }
 }

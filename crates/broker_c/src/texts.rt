@@ -1,7 +1,7 @@
 //! The calls that read a broker and leave it as it is. They don't change the numbers that
 //! `broker_why` tells, and return -1 if the handle is shut.
 
-ghost use Rattle.std.specs.Prelude.{◌≡◌, IfOk, OnErr, OnOk, Some, length, pos};
+ghost use Rattle.std.specs.Prelude.{◌≡◌, IfOk, OnErr, OnOk, length, pos};
 ghost use Rattle.cs_write.specs.Buffer.{given};
 ghost use Rattle.cs_write.specs.Text.{text_of};
 ghost use Rattle.rb_core.specs.Combined.{combined_of};
@@ -11,7 +11,7 @@ ghost use Rattle.broker_c.specs.Texts.{ReadsAbout, ReadsCombined, ReadsCursor, R
 ghost use Rattle.broker_c.specs.Texts.{ReadsLeft, ReadsText};
 ghost use Rattle.broker_c.specs.Texts as texts;
 
-use crate::codes::{NO_MEMORY, NO_SUBSCRIPTION, NOT_PLACED, SHUT};
+use crate::codes::{NO_MEMORY, NO_SUBSCRIPTION, NOT_PLACED};
 use crate::handle::Handle;
 use crate::reading::told;
 use crate::writing::text_into;
@@ -36,12 +36,7 @@ pub struct About {
 pub extern "C" fn broker_text(alloc: Global, broker: &mut Handle, entry: u64, out: &mut [u8]) -> i64
     ensures { ReadsText result entry broker.old broker.new out.old out.new }
 {
-    told!(
-        alloc,
-        broker,
-        i64::from(SHUT),
-        |world| entry_into(&world, entry, out)
-    )
+    told!(alloc, broker, |world| entry_into(&world, entry, out))
 }
 
 // the length of an entry's text, which is written if there is room for it; or -16
@@ -70,7 +65,6 @@ pub extern "C" fn broker_combined(
     told!(
         alloc,
         broker,
-        i64::from(SHUT),
         |world| combined_into(alloc, &world, first, last, out)
     )
 }
@@ -80,18 +74,8 @@ fn combined_into(alloc: Global, world: &World, first: u64, last: u64, out: &mut 
     ensures { IsCombinedOf result (combined_of world.now first last) out.old out.new }
 {
     match world.combined(alloc, first, last) {
-        Ok(Some(changeset)) => written(alloc, &changeset, out),
+        Ok(Some(changeset)) => text_of(alloc, &changeset, out).unwrap_or(i64::from(NO_MEMORY)),
         Ok(None) => i64::from(NOT_PLACED),
-        Err(_) => i64::from(NO_MEMORY),
-    }
-}
-
-// the same of a changeset
-fn written(alloc: Global, changeset: &Changeset, out: &mut [u8]) -> i64
-    ensures { IsCombinedOf result (Some changeset.now) out.old out.new }
-{
-    match text_of(alloc, changeset, out) {
-        Ok(len) => len,
         Err(_) => i64::from(NO_MEMORY),
     }
 }
@@ -117,12 +101,7 @@ pub extern "C" fn broker_entry(
 ) -> i32
     ensures { ReadsAbout result entry broker.old broker.new about.old about.new }
 {
-    told!(
-        alloc,
-        broker,
-        SHUT,
-        |world| about_into(&world, entry, about)
-    )
+    told!(alloc, broker, |world| about_into(&world, entry, about))
 }
 
 fn about_into(world: &World, number: u64, about: &mut About) -> i32
@@ -159,7 +138,7 @@ fn withdrawn_by(origin: Origin) -> u64
 pub extern "C" fn broker_front(alloc: Global, broker: &mut Handle, entry: &mut u64) -> i32
     ensures { ReadsFront result broker.old broker.new entry.old entry.new }
 {
-    told!(alloc, broker, SHUT, |world| {
+    told!(alloc, broker, |world| {
         *entry = world.front();
         0
     })
@@ -170,7 +149,7 @@ pub extern "C" fn broker_front(alloc: Global, broker: &mut Handle, entry: &mut u
 pub extern "C" fn broker_left(alloc: Global, broker: &mut Handle, count: &mut u64) -> i32
     ensures { ReadsLeft result broker.old broker.new count.old count.new }
 {
-    told!(alloc, broker, SHUT, |world| {
+    told!(alloc, broker, |world| {
         *count = world.left();
         0
     })
@@ -190,7 +169,6 @@ pub extern "C" fn broker_cursor(
     told!(
         alloc,
         broker,
-        SHUT,
         |world| cursor_into(&world, subscription, cursor)
     )
 }

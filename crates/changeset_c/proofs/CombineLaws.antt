@@ -152,44 +152,37 @@ add_cut changesets i changeset section in_range rest fits clash = record {
 
 -- ---- both
 
+-- the clash of a text that stands among the others
+clash_in : (texts within : List (List ℕ)) (changesets : List (List Section)) (index section : ℕ)
+    (at : IsFirstClash changesets index section) (s : Split within at.front at.changeset) (rest : List (List ℕ))
+    → texts ≡ s.before ++ s.text ∷ rest → HasClash texts index section
+clash_in texts within changesets index section at s rest parts = record {
+  front = s.before;
+  text = s.text;
+  changesets = at.front;
+  first = record {
+    rest = rest;
+    parts = parts;
+    is_index = at.is_index ∙ same_count s.before at.front s.spelled;
+    spelled = s.spelled;
+    fits = at.fits;
+  };
+  changeset = at.changeset;
+  spells = s.one;
+  clash = at.clash;
+}
+
 pub clash_told : (texts : List (List ℕ)) (changesets : List (List Section)) (fault : Option ParseFault)
     (index section : ℕ) → ReadUntil texts changesets fault → IsFirstClash changesets index section
     → HasClash texts index section
 clash_told texts changesets None index section all at =
     let s = split texts at.front at.changeset at.rest (subst (λ cs. SpellAll texts cs) at.parts all) in
-    record {
-      front = s.before;
-      text = s.text;
-      changesets = at.front;
-      first = record {
-        rest = s.after;
-        parts = s.parts;
-        is_index = at.is_index ∙ same_count s.before at.front s.spelled;
-        spelled = s.spelled;
-        fits = at.fits;
-      };
-      changeset = at.changeset;
-      spells = s.one;
-      clash = at.clash;
-    }
+    clash_in texts texts changesets index section at s s.after s.parts
 clash_told texts changesets (Some fault) index section cut at =
     let s = split cut.front at.front at.changeset at.rest (subst (λ cs. SpellAll cut.front cs) at.parts cut.spelled) in
-    record {
-      front = s.before;
-      text = s.text;
-      changesets = at.front;
-      first = record {
-        rest = s.after ++ cut.text ∷ cut.rest;
-        parts = cut.parts ∙ ap (λ xs. xs ++ cut.text ∷ cut.rest) s.parts
-            ∙ append_assoc s.before (s.text ∷ s.after) (cut.text ∷ cut.rest);
-        is_index = at.is_index ∙ same_count s.before at.front s.spelled;
-        spelled = s.spelled;
-        fits = at.fits;
-      };
-      changeset = at.changeset;
-      spells = s.one;
-      clash = at.clash;
-    }
+    clash_in texts cut.front changesets index section at s (s.after ++ cut.text ∷ cut.rest)
+    (cut.parts ∙ ap (λ xs. xs ++ cut.text ∷ cut.rest) s.parts
+    ∙ append_assoc s.before (s.text ∷ s.after) (cut.text ∷ cut.rest))
 
 pub text_fault_told : (texts : List (List ℕ)) (changesets : List (List Section)) (fault : ParseFault) (index : ℕ)
     → index ≡ length changesets → IsCutBy texts changesets fault → first_refused [] changesets ≡ None

@@ -15,9 +15,8 @@ ghost use Rattle.changeset_c.specs.Combining.{combined_text, texts_of};
 ghost use Rattle.changeset_c.specs.Says.{CanonicalSays, CheckSays, InvertSays, IsFaultAt, IsNumber};
 ghost use Rattle.changeset_c.specs.Says.{KeptBut, inverse_text};
 
-use crate::answers::{canonical, check};
+use crate::answers::{canonical, check, inverted};
 use crate::combining::{Text, combine};
-use crate::inverting::inverted;
 use crate::reading::texts_are_read_so;
 use cs_parse::laws::every_text;
 use std::alloc::Global;

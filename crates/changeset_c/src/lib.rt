@@ -6,7 +6,6 @@
 mod answers;
 mod combining;
 mod exports;
-mod inverting;
 mod reading;
 mod results;
 #[cfg(test)]

@@ -4,5 +4,6 @@ pub mod Changes
 pub mod Errors
 pub mod Inside
 pub mod Reading
+pub mod Steps
 pub mod Loading
 pub mod Durable

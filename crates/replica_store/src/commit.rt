@@ -1,12 +1,13 @@
 //! Commits changes of rows and a cursor, in one transaction.
 
-ghost use Rattle.std.specs.Prelude.{◌≡◌, ◌<◌, ◌^◌, pos, IfOk, OnOk};
+ghost use Rattle.std.specs.Prelude.{◌≡◌, ◌<◌, ◌^◌, pos, IfOk};
 ghost use Rattle.sqlite.specs.Held.{state};
-ghost use Rattle.sqlite.specs.State.{HasCleanDisk, Survives};
+ghost use Rattle.sqlite.specs.State.{Survives};
 ghost use Rattle.replica_store.specs.Changes.{AfterChange, AfterChanges, Commits};
 ghost use Rattle.replica_store.specs.Inside.{IsInside, ChangesRows, SetsCursor};
 ghost use Rattle.replica_store.specs.Inside.{WithoutRow, WithBody};
 ghost use Rattle.replica_store.specs.Picture.{HoldsReplica};
+ghost use Rattle.replica_store.specs.Steps.{WhereClean, Makes, AddsNone, HoldsCommit};
 
 use cs_model::RowKey;
 use par_apply::RowChange;
@@ -18,12 +19,10 @@ pub(crate) fn commit_once<S: Alter>(
     changes: &[RowChange],
     cursor: u64,
 ) -> Result<(), Error>
-    requires held { HasCleanDisk (state S.Store conn.old) → HoldsReplica (state S.Store conn.old) }
+    requires held { WhereClean HoldsReplica (state S.Store conn.old) }
     requires below { cursor < 2 ^ 63 }
-    ensures ok { HasCleanDisk (state S.Store conn.new) → OnOk result
-        (HoldsReplica (state S.Store conn.new)
-        × Commits changes.now cursor (state S.Store conn.old).committed.trees
-        (state S.Store conn.new).committed.trees) }
+    ensures ok { Makes result (HoldsCommit changes.now cursor)
+        (state S.Store conn.old) (state S.Store conn.new) }
     ensures crash { Survives (state S.Store conn.old) (state S.Store conn.new)
         (Commits changes.now cursor (state S.Store conn.old).committed.trees) }
 {
@@ -33,19 +32,15 @@ pub(crate) fn commit_once<S: Alter>(
     let mut tx = conn.transaction();
     change_all(&mut tx, changes)?;
     set_cursor(&mut tx, cursor)?;
-    tx.commit()?;
-    Ok(())
+    tx.commit()
 }
 
 fn change_all<S: Alter>(tx: &mut Transaction<'_, S>, changes: &[RowChange]) -> Result<(), Error>
-    requires { HasCleanDisk (state S.Store tx.old.conn.now)
-        → IsInside (state S.Store tx.old.conn.now) }
+    requires { WhereClean IsInside (state S.Store tx.old.conn.now) }
     ensures same_reference { tx.new.conn.ghost_name ≡ tx.old.conn.ghost_name }
-    ensures changes { HasCleanDisk (state S.Store tx.new.conn.now) → OnOk result
-        (ChangesRows (AfterChanges changes.now)
-        (state S.Store tx.old.conn.now) (state S.Store tx.new.conn.now)) }
-    ensures survives { Survives (state S.Store tx.old.conn.now) (state S.Store tx.new.conn.now)
-        (λ _. ⊥) }
+    ensures changes { Makes result (ChangesRows (AfterChanges changes.now))
+        (state S.Store tx.old.conn.now) (state S.Store tx.new.conn.now) }
+    ensures survives { AddsNone (state S.Store tx.old.conn.now) (state S.Store tx.new.conn.now) }
 {
     for change in changes {
         change_one(tx, change)?;
@@ -54,14 +49,11 @@ fn change_all<S: Alter>(tx: &mut Transaction<'_, S>, changes: &[RowChange]) -> R
 }
 
 fn change_one<S: Alter>(tx: &mut Transaction<'_, S>, change: &RowChange) -> Result<(), Error>
-    requires { HasCleanDisk (state S.Store tx.old.conn.now)
-        → IsInside (state S.Store tx.old.conn.now) }
+    requires { WhereClean IsInside (state S.Store tx.old.conn.now) }
     ensures same_reference { tx.new.conn.ghost_name ≡ tx.old.conn.ghost_name }
-    ensures changes { HasCleanDisk (state S.Store tx.new.conn.now) → OnOk result
-        (ChangesRows (AfterChange change.now)
-        (state S.Store tx.old.conn.now) (state S.Store tx.new.conn.now)) }
-    ensures survives { Survives (state S.Store tx.old.conn.now) (state S.Store tx.new.conn.now)
-        (λ _. ⊥) }
+    ensures changes { Makes result (ChangesRows (AfterChange change.now))
+        (state S.Store tx.old.conn.now) (state S.Store tx.new.conn.now) }
+    ensures survives { AddsNone (state S.Store tx.old.conn.now) (state S.Store tx.new.conn.now) }
 {
     take_out(tx, &change.0)?;
     if let Some(row) = &change.1 {
@@ -71,14 +63,11 @@ fn change_one<S: Alter>(tx: &mut Transaction<'_, S>, change: &RowChange) -> Resu
 }
 
 fn take_out<S: Alter>(tx: &mut Transaction<'_, S>, key: &RowKey) -> Result<usize, Error>
-    requires { HasCleanDisk (state S.Store tx.old.conn.now)
-        → IsInside (state S.Store tx.old.conn.now) }
+    requires { WhereClean IsInside (state S.Store tx.old.conn.now) }
     ensures same_reference { tx.new.conn.ghost_name ≡ tx.old.conn.ghost_name }
-    ensures changes { HasCleanDisk (state S.Store tx.new.conn.now) → OnOk result
-        (ChangesRows (WithoutRow key.now)
-        (state S.Store tx.old.conn.now) (state S.Store tx.new.conn.now)) }
-    ensures survives { Survives (state S.Store tx.old.conn.now) (state S.Store tx.new.conn.now)
-        (λ _. ⊥) }
+    ensures changes { Makes result (ChangesRows (WithoutRow key.now))
+        (state S.Store tx.old.conn.now) (state S.Store tx.new.conn.now) }
+    ensures survives { AddsNone (state S.Store tx.old.conn.now) (state S.Store tx.new.conn.now) }
 {
     let table = table_number(key)?;
     let bytes: &[u8] = &key.bytes;
@@ -89,14 +78,11 @@ fn take_out<S: Alter>(tx: &mut Transaction<'_, S>, key: &RowKey) -> Result<usize
 }
 
 fn put_in<S: Alter>(tx: &mut Transaction<'_, S>, key: &RowKey, body: &[u8]) -> Result<usize, Error>
-    requires { HasCleanDisk (state S.Store tx.old.conn.now)
-        → IsInside (state S.Store tx.old.conn.now) }
+    requires { WhereClean IsInside (state S.Store tx.old.conn.now) }
     ensures same_reference { tx.new.conn.ghost_name ≡ tx.old.conn.ghost_name }
-    ensures changes { HasCleanDisk (state S.Store tx.new.conn.now) → OnOk result
-        (ChangesRows (WithBody key.now body.now)
-        (state S.Store tx.old.conn.now) (state S.Store tx.new.conn.now)) }
-    ensures survives { Survives (state S.Store tx.old.conn.now) (state S.Store tx.new.conn.now)
-        (λ _. ⊥) }
+    ensures changes { Makes result (ChangesRows (WithBody key.now body.now))
+        (state S.Store tx.old.conn.now) (state S.Store tx.new.conn.now) }
+    ensures survives { AddsNone (state S.Store tx.old.conn.now) (state S.Store tx.new.conn.now) }
 {
     let table = table_number(key)?;
     let bytes: &[u8] = &key.bytes;
@@ -110,21 +96,16 @@ fn put_in<S: Alter>(tx: &mut Transaction<'_, S>, key: &RowKey, body: &[u8]) -> R
 fn table_number(key: &RowKey) -> Result<i64, Error>
     ensures { IfOk result (λ n. n ≡ pos key.now.table) }
 {
-    match i64::try_from(key.table) {
-        Ok(number) => Ok(number),
-        Err(_) => Err(Error::SqliteFailure(ErrorCode::IntegerOverflow)),
-    }
+    i64::try_from(key.table).map_err(|_| Error::SqliteFailure(ErrorCode::IntegerOverflow))
 }
 
 fn set_cursor<S: Alter>(tx: &mut Transaction<'_, S>, cursor: u64) -> Result<usize, Error>
-    requires inside { HasCleanDisk (state S.Store tx.old.conn.now)
-        → IsInside (state S.Store tx.old.conn.now) }
+    requires inside { WhereClean IsInside (state S.Store tx.old.conn.now) }
     requires below { cursor < 2 ^ 63 }
     ensures same_reference { tx.new.conn.ghost_name ≡ tx.old.conn.ghost_name }
-    ensures sets { HasCleanDisk (state S.Store tx.new.conn.now) → OnOk result
-        (SetsCursor cursor (state S.Store tx.old.conn.now) (state S.Store tx.new.conn.now)) }
-    ensures survives { Survives (state S.Store tx.old.conn.now) (state S.Store tx.new.conn.now)
-        (λ _. ⊥) }
+    ensures sets { Makes result (SetsCursor cursor)
+        (state S.Store tx.old.conn.now) (state S.Store tx.new.conn.now) }
+    ensures survives { AddsNone (state S.Store tx.old.conn.now) (state S.Store tx.new.conn.now) }
 {
     tx.execute("UPDATE rb_mark SET place = ?1", params![cursor as i64])
 }

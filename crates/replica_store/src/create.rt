@@ -1,13 +1,14 @@
 //! Makes a replica's tables in a database without tables, in one transaction.
 
-ghost use Rattle.std.specs.Prelude.{◌≡◌, ◌↔◌, [], IsTrue, OnOk};
+ghost use Rattle.std.specs.Prelude.{◌≡◌, [], IsTrue, OnOk};
 ghost use Rattle.sqlite.specs.Held.{state};
-ghost use Rattle.sqlite.specs.State.{HasCleanDisk, Survives};
-ghost use Rattle.sqlite.specs.Tree.{Trees};
+ghost use Rattle.sqlite.specs.State.{Survives};
 ghost use Rattle.replica_store.specs.Inside.{IsBlankInside, HasRowTable, HasBothTables};
 ghost use Rattle.replica_store.specs.Inside.{IsNewInside};
 ghost use Rattle.replica_store.specs.Layout.{empty_schema};
-ghost use Rattle.replica_store.specs.Picture.{HoldsReplica, IsNewReplica};
+ghost use Rattle.replica_store.specs.Picture.{IsNewReplica};
+ghost use Rattle.replica_store.specs.Steps.{WhereClean, Reaches, AddsNone, LeavesCommitted};
+ghost use Rattle.replica_store.specs.Steps.{HoldsNew};
 
 use sqlite::{Alter, Connection, Error, ErrorCode, Transaction};
 use sqlite_schema::schema::Schema;
@@ -15,12 +16,8 @@ use sqlite_schema::schema::Schema;
 /// Makes the tables and the mark, or changes nothing.
 pub(crate) fn create_once<S: Alter>(conn: &mut Connection<S>) -> Result<(), Error>
     ensures blank { OnOk result (conn.old.schema ≡ empty_schema) }
-    ensures made { HasCleanDisk (state S.Store conn.new) → OnOk result
-        (HoldsReplica (state S.Store conn.new)
-        × IsNewReplica (state S.Store conn.new).committed.trees) }
-    ensures stands { HasCleanDisk (state S.Store conn.new) → OnOk result
-        ((db : Trees) → (state S.Store conn.new).may_leave db
-        → db ≡ (state S.Store conn.new).committed.trees) }
+    ensures made { Reaches result HoldsNew (state S.Store conn.new) }
+    ensures stands { Reaches result LeavesCommitted (state S.Store conn.new) }
     ensures survives { Survives (state S.Store conn.old) (state S.Store conn.new) IsNewReplica }
 {
     if !conn.is_autocommit() {
@@ -31,8 +28,7 @@ pub(crate) fn create_once<S: Alter>(conn: &mut Connection<S>) -> Result<(), Erro
     }
     let mut tx = conn.transaction();
     make_all(&mut tx)?;
-    tx.commit()?;
-    Ok(())
+    tx.commit()
 }
 
 // whether the schema has no table, index or view
@@ -44,13 +40,10 @@ fn has_nothing(schema: &Schema) -> bool
 
 // both tables and the first mark
 fn make_all<S: Alter>(tx: &mut Transaction<'_, S>) -> Result<(), Error>
-    requires { HasCleanDisk (state S.Store tx.old.conn.now)
-        → IsBlankInside (state S.Store tx.old.conn.now) }
+    requires { WhereClean IsBlankInside (state S.Store tx.old.conn.now) }
     ensures same_reference { tx.new.conn.ghost_name ≡ tx.old.conn.ghost_name }
-    ensures made { HasCleanDisk (state S.Store tx.new.conn.now)
-        → OnOk result (IsNewInside (state S.Store tx.new.conn.now)) }
-    ensures survives { Survives (state S.Store tx.old.conn.now) (state S.Store tx.new.conn.now)
-        (λ _. ⊥) }
+    ensures made { Reaches result IsNewInside (state S.Store tx.new.conn.now) }
+    ensures survives { AddsNone (state S.Store tx.old.conn.now) (state S.Store tx.new.conn.now) }
 {
     make_row_table(tx)?;
     make_mark_table(tx)?;
@@ -59,13 +52,10 @@ fn make_all<S: Alter>(tx: &mut Transaction<'_, S>) -> Result<(), Error>
 }
 
 fn make_row_table<S: Alter>(tx: &mut Transaction<'_, S>) -> Result<usize, Error>
-    requires { HasCleanDisk (state S.Store tx.old.conn.now)
-        → IsBlankInside (state S.Store tx.old.conn.now) }
+    requires { WhereClean IsBlankInside (state S.Store tx.old.conn.now) }
     ensures same_reference { tx.new.conn.ghost_name ≡ tx.old.conn.ghost_name }
-    ensures made { HasCleanDisk (state S.Store tx.new.conn.now)
-        → OnOk result (HasRowTable (state S.Store tx.new.conn.now)) }
-    ensures survives { Survives (state S.Store tx.old.conn.now) (state S.Store tx.new.conn.now)
-        (λ _. ⊥) }
+    ensures made { Reaches result HasRowTable (state S.Store tx.new.conn.now) }
+    ensures survives { AddsNone (state S.Store tx.old.conn.now) (state S.Store tx.new.conn.now) }
 {
     tx.execute(
         "CREATE TABLE rb_row(tab INTEGER NOT NULL, rowkey BLOB NOT NULL, body BLOB NOT NULL, \
@@ -75,13 +65,10 @@ fn make_row_table<S: Alter>(tx: &mut Transaction<'_, S>) -> Result<usize, Error>
 }
 
 fn make_mark_table<S: Alter>(tx: &mut Transaction<'_, S>) -> Result<usize, Error>
-    requires { HasCleanDisk (state S.Store tx.old.conn.now)
-        → HasRowTable (state S.Store tx.old.conn.now) }
+    requires { WhereClean HasRowTable (state S.Store tx.old.conn.now) }
     ensures same_reference { tx.new.conn.ghost_name ≡ tx.old.conn.ghost_name }
-    ensures made { HasCleanDisk (state S.Store tx.new.conn.now)
-        → OnOk result (HasBothTables (state S.Store tx.new.conn.now)) }
-    ensures survives { Survives (state S.Store tx.old.conn.now) (state S.Store tx.new.conn.now)
-        (λ _. ⊥) }
+    ensures made { Reaches result HasBothTables (state S.Store tx.new.conn.now) }
+    ensures survives { AddsNone (state S.Store tx.old.conn.now) (state S.Store tx.new.conn.now) }
 {
     tx.execute(
         "CREATE TABLE rb_mark(id INTEGER PRIMARY KEY, place INTEGER NOT NULL)",
@@ -90,13 +77,10 @@ fn make_mark_table<S: Alter>(tx: &mut Transaction<'_, S>) -> Result<usize, Error
 }
 
 fn put_first_mark<S: Alter>(tx: &mut Transaction<'_, S>) -> Result<usize, Error>
-    requires { HasCleanDisk (state S.Store tx.old.conn.now)
-        → HasBothTables (state S.Store tx.old.conn.now) }
+    requires { WhereClean HasBothTables (state S.Store tx.old.conn.now) }
     ensures same_reference { tx.new.conn.ghost_name ≡ tx.old.conn.ghost_name }
-    ensures made { HasCleanDisk (state S.Store tx.new.conn.now)
-        → OnOk result (IsNewInside (state S.Store tx.new.conn.now)) }
-    ensures survives { Survives (state S.Store tx.old.conn.now) (state S.Store tx.new.conn.now)
-        (λ _. ⊥) }
+    ensures made { Reaches result IsNewInside (state S.Store tx.new.conn.now) }
+    ensures survives { AddsNone (state S.Store tx.old.conn.now) (state S.Store tx.new.conn.now) }
 {
     tx.execute("INSERT INTO rb_mark VALUES (1, 0)", &[])
 }

@@ -1,6 +1,6 @@
 //! What holds of a replica over a restart.
 
-ghost use Rattle.std.specs.Prelude.{◌≡◌, ℕ, ◌<◌, ◌^◌, ◌⊎◌, IfSome};
+ghost use Rattle.std.specs.Prelude.{ℕ, ◌<◌, ◌^◌, IfSome};
 ghost use Rattle.std.specs.List.{IsDistinct};
 ghost use Rattle.std.specs.Map.{keys_of};
 ghost use Rattle.cs_apply.specs.SameKey.{same_key};
@@ -11,6 +11,7 @@ ghost use Rattle.sqlite.specs.State.{HasCleanDisk};
 ghost use Rattle.replica_store.specs.Changes.{Commits};
 ghost use Rattle.replica_store.specs.Loading.{TableBodies};
 ghost use Rattle.replica_store.specs.Picture.{AreSameRows, HoldsReplica, Stores};
+ghost use Rattle.replica_store.specs.Steps.{WhereClean, HoldsOneOf};
 ghost use Rattle.sqlite.specs.Tree.{Trees};
 
 use crate::replica::Replica;
@@ -38,15 +39,10 @@ pub fn commit_and_crash<S: Alter + Reopen + Drop>(
     changes: &[RowChange],
     cursor: u64,
 ) -> Option<Replica<S>>
-    requires held { HasCleanDisk (state S.Store replica.conn)
-        → HoldsReplica (state S.Store replica.conn) }
+    requires held { WhereClean HoldsReplica (state S.Store replica.conn) }
     requires below { cursor < 2 ^ 63 }
-    ensures { IfSome result (λ again. HasCleanDisk (state S.Store again.conn)
-        → HoldsReplica (state S.Store again.conn)
-        × (((state S.Store again.conn).committed.trees
-        ≡ (state S.Store replica.conn).committed.trees)
-        ⊎ Commits changes.now cursor (state S.Store replica.conn).committed.trees
-        (state S.Store again.conn).committed.trees)) }
+    ensures { IfSome result (λ again. WhereClean
+        (HoldsOneOf changes.now cursor (state S.Store replica.conn)) (state S.Store again.conn)) }
 {
     let _ = replica.commit(changes, cursor);
     crash_and_open(alloc, replica)
@@ -94,15 +90,10 @@ pub fn commit_and_open<S: Alter + Drop>(
     changes: &[RowChange],
     cursor: u64,
 ) -> Option<Replica<S>>
-    requires held { HasCleanDisk (state S.Store replica.conn)
-        → HoldsReplica (state S.Store replica.conn) }
+    requires held { WhereClean HoldsReplica (state S.Store replica.conn) }
     requires below { cursor < 2 ^ 63 }
-    ensures { IfSome result (λ again. HasCleanDisk (state S.Store again.conn)
-        → HoldsReplica (state S.Store again.conn)
-        × (((state S.Store again.conn).committed.trees
-        ≡ (state S.Store replica.conn).committed.trees)
-        ⊎ Commits changes.now cursor (state S.Store replica.conn).committed.trees
-        (state S.Store again.conn).committed.trees)) }
+    ensures { IfSome result (λ again. WhereClean
+        (HoldsOneOf changes.now cursor (state S.Store replica.conn)) (state S.Store again.conn)) }
 {
     let _ = replica.commit(changes, cursor);
     let (conn, schema) = replica.into_parts();

@@ -3,10 +3,11 @@
 ghost use Rattle.std.specs.Prelude.{◌≡◌, ◌↔◌, ℕ, IsTrue, IfOk, OnOk, Err};
 ghost use Rattle.std.specs.List.{list_all};
 ghost use Rattle.sqlite.specs.Held.{state, Serves};
-ghost use Rattle.sqlite.specs.State.{HasCleanDisk, IsUnchanged, Survives};
+ghost use Rattle.sqlite.specs.State.{HasCleanDisk, IsUnchanged};
 ghost use Rattle.replica_store.specs.Layout.{replica_schema};
 ghost use Rattle.replica_store.specs.Picture.{HasCursor, HoldsReplica, IsReplica};
 ghost use Rattle.replica_store.specs.Reading.{AreRowRecords, HasTableColumns, is_shown_record};
+ghost use Rattle.replica_store.specs.Steps.{WhereClean, Makes, AddsNone, KeepsColumns};
 ghost use Rattle.replica_store.specs.declared.error.ReplicaError.TheVariants.{Unusable};
 
 use crate::error::{ReplicaError, reported};
@@ -41,7 +42,7 @@ pub(crate) fn check<S: Alter>(conn: &mut Connection<S>) -> Result<(), ReplicaErr
         × IsUnchanged (state S.Store conn.old) (state S.Store conn.new)) }
     ensures unusable { HasCleanDisk (state S.Store conn.new) → result ≡ Err Unusable
         → conn.old.schema ≡ replica_schema → IsReplica (state S.Store conn.old).now.trees → ⊥ }
-    ensures survives { Survives (state S.Store conn.old) (state S.Store conn.new) (λ _. ⊥) }
+    ensures survives { AddsNone (state S.Store conn.old) (state S.Store conn.new) }
 {
     if !conn.is_autocommit() {
         return Err(ReplicaError::Store);
@@ -49,25 +50,21 @@ pub(crate) fn check<S: Alter>(conn: &mut Connection<S>) -> Result<(), ReplicaErr
     if !is_of_replica(conn.schema()) {
         return Err(ReplicaError::Unusable);
     }
-    match is_replica(conn) {
-        Ok(true) => Ok(()),
-        Ok(false) => Err(ReplicaError::Unusable),
-        Err(error) => Err(error),
+    if !is_replica(conn)? {
+        return Err(ReplicaError::Unusable);
     }
+    Ok(())
 }
 
 // whether what the tables store is a replica
 fn is_replica<S: Alter>(conn: &mut Connection<S>) -> Result<bool, ReplicaError>
     requires schema { HasCleanDisk (state S.Store conn.old) → conn.old.schema ≡ replica_schema }
-    requires columns { HasCleanDisk (state S.Store conn.old)
-        → IsTrue (state S.Store conn.old).is_open
-        → HasTableColumns (state S.Store conn.old).now.trees }
+    requires columns { WhereClean KeepsColumns (state S.Store conn.old) }
     ensures fits { HasCleanDisk (state S.Store conn.new) → IfOk result (λ fits.
         IsTrue fits ↔ IsReplica (state S.Store conn.old).now.trees) }
-    ensures same { HasCleanDisk (state S.Store conn.new)
-        → OnOk result (IsUnchanged (state S.Store conn.old) (state S.Store conn.new)) }
+    ensures same { Makes result IsUnchanged (state S.Store conn.old) (state S.Store conn.new) }
     ensures named { result ≡ Err Unusable → ⊥ }
-    ensures survives { Survives (state S.Store conn.old) (state S.Store conn.new) (λ _. ⊥) }
+    ensures survives { AddsNone (state S.Store conn.old) (state S.Store conn.new) }
 {
     let records = has_records(conn)?;
     let mark = has_mark(conn)?;
@@ -77,20 +74,15 @@ fn is_replica<S: Alter>(conn: &mut Connection<S>) -> Result<bool, ReplicaError>
 // whether each stored row has a table's number, a key and a body
 fn has_records<S: Alter>(conn: &mut Connection<S>) -> Result<bool, ReplicaError>
     requires schema { HasCleanDisk (state S.Store conn.old) → conn.old.schema ≡ replica_schema }
-    requires columns { HasCleanDisk (state S.Store conn.old)
-        → IsTrue (state S.Store conn.old).is_open
-        → HasTableColumns (state S.Store conn.old).now.trees }
+    requires columns { WhereClean KeepsColumns (state S.Store conn.old) }
     ensures fits { HasCleanDisk (state S.Store conn.new) → IfOk result (λ fits.
         IsTrue fits ↔ AreRowRecords ((state S.Store conn.old).now.trees 0)) }
-    ensures same { HasCleanDisk (state S.Store conn.new)
-        → OnOk result (IsUnchanged (state S.Store conn.old) (state S.Store conn.new)) }
+    ensures same { Makes result IsUnchanged (state S.Store conn.old) (state S.Store conn.new) }
     ensures named { result ≡ Err Unusable → ⊥ }
-    ensures survives { Survives (state S.Store conn.old) (state S.Store conn.new) (λ _. ⊥) }
+    ensures survives { AddsNone (state S.Store conn.old) (state S.Store conn.new) }
 {
-    match reported(stored_rows(conn)) {
-        Ok(rows) => Ok(are_records(&rows)),
-        Err(error) => Err(error),
-    }
+    let rows = reported(stored_rows(conn))?;
+    Ok(are_records(&rows))
 }
 
 fn are_records(rows: &[Row]) -> bool
@@ -108,18 +100,13 @@ fn is_record(row: &Row) -> bool
 // whether there is one mark, with the id 1 and a place
 fn has_mark<S: Alter>(conn: &mut Connection<S>) -> Result<bool, ReplicaError>
     requires schema { HasCleanDisk (state S.Store conn.old) → conn.old.schema ≡ replica_schema }
-    requires columns { HasCleanDisk (state S.Store conn.old)
-        → IsTrue (state S.Store conn.old).is_open
-        → HasTableColumns (state S.Store conn.old).now.trees }
+    requires columns { WhereClean KeepsColumns (state S.Store conn.old) }
     ensures fits { HasCleanDisk (state S.Store conn.new) → IfOk result (λ fits.
         IsTrue fits ↔ ((place : ℕ) × HasCursor (state S.Store conn.old).now.trees place)) }
-    ensures same { HasCleanDisk (state S.Store conn.new)
-        → OnOk result (IsUnchanged (state S.Store conn.old) (state S.Store conn.new)) }
+    ensures same { Makes result IsUnchanged (state S.Store conn.old) (state S.Store conn.new) }
     ensures named { result ≡ Err Unusable → ⊥ }
-    ensures survives { Survives (state S.Store conn.old) (state S.Store conn.new) (λ _. ⊥) }
+    ensures survives { AddsNone (state S.Store conn.old) (state S.Store conn.new) }
 {
-    match reported(stored_marks(conn)) {
-        Ok(marks) => Ok(only_mark(&marks).is_some()),
-        Err(error) => Err(error),
-    }
+    let marks = reported(stored_marks(conn))?;
+    Ok(only_mark(&marks).is_some())
 }

@@ -1,6 +1,6 @@
 //! `Replica`: a connection to a replica's database.
 
-ghost use Rattle.std.specs.Prelude.{◌≡◌, ◌≢◌, ◌⊎◌, ◌<◌, ◌^◌, IfOk, IfErr, OnOk, Err};
+ghost use Rattle.std.specs.Prelude.{◌≡◌, ◌≢◌, ◌⊎◌, ◌<◌, ◌^◌, IfOk, IfErr, Err};
 ghost use Rattle.sqlite.specs.Held.{state};
 ghost use Rattle.sqlite.specs.State.{HasCleanDisk, IsUnchanged, Survives};
 ghost use Rattle.sqlite.specs.Tree.{Trees};
@@ -11,6 +11,8 @@ ghost use Rattle.std.specs.FinMap as map;
 ghost use Rattle.replica_store.specs.Durable.{KeepsRows};
 ghost use Rattle.replica_store.specs.Loading.{LoadsRows, AreSchemaRows};
 ghost use Rattle.replica_store.specs.Picture.{HasCursor, HoldsReplica, IsNewReplica, Stores};
+ghost use Rattle.replica_store.specs.Steps.{WhereClean, Reaches, Makes, AddsNone, LeavesCommitted};
+ghost use Rattle.replica_store.specs.Steps.{HoldsCommit, HoldsNew};
 ghost use Rattle.replica_store.specs.declared.error.ReplicaError.TheVariants.{Unusable};
 
 use crate::commit::commit_once;
@@ -40,21 +42,15 @@ impl<S: Alter + Drop> Replica<S> {
     /// anything is in the database's schema, or a transaction is open.
     pub fn create(mut conn: Connection<S>, schema: Arc<Schema>) -> Result<Replica<S>, ReplicaError>
         ensures blank { IfOk result (λ r. (conn.schema ≡ empty_schema) × (r.schema ≡ schema)) }
-        ensures made { IfOk result (λ r. HasCleanDisk (state S.Store r.conn)
-            → HoldsReplica (state S.Store r.conn)
-            × IsNewReplica (state S.Store r.conn).committed.trees) }
-        ensures stands { IfOk result (λ r. HasCleanDisk (state S.Store r.conn)
-            → (db : Trees) → (state S.Store r.conn).may_leave db
-            → db ≡ (state S.Store r.conn).committed.trees) }
+        ensures made { IfOk result (λ r. WhereClean HoldsNew (state S.Store r.conn)) }
+        ensures stands { IfOk result (λ r. WhereClean LeavesCommitted (state S.Store r.conn)) }
         ensures survives { IfOk result (λ r.
             Survives (state S.Store conn) (state S.Store r.conn) IsNewReplica) }
         ensures keeps { IfOk result (λ r. KeepsRows (state S.Store r.conn) map.empty 0) }
         ensures named { IfErr result (λ e. e ≢ Unusable) }
     {
-        match reported(create_once(&mut conn)) {
-            Ok(()) => Ok(Replica { conn, schema }),
-            Err(error) => Err(error),
-        }
+        reported(create_once(&mut conn))?;
+        Ok(Replica { conn, schema })
     }
 
     /// Opens the replica that a database holds. No statement writes. Answers `Unusable` if the
@@ -64,14 +60,12 @@ impl<S: Alter + Drop> Replica<S> {
             → HoldsReplica (state S.Store r.conn)
             × IsUnchanged (state S.Store conn) (state S.Store r.conn)) }
         ensures survives { IfOk result (λ r.
-            Survives (state S.Store conn) (state S.Store r.conn) (λ _. ⊥)) }
+            AddsNone (state S.Store conn) (state S.Store r.conn)) }
         ensures same_schema { IfOk result (λ r. r.schema ≡ schema) }
     {
         let mut conn = with_columns(conn);
-        match check(&mut conn) {
-            Ok(()) => Ok(Replica { conn, schema }),
-            Err(error) => Err(error),
-        }
+        check(&mut conn)?;
+        Ok(Replica { conn, schema })
     }
 }
 
@@ -80,16 +74,11 @@ impl<S: Alter> Replica<S> {
     /// returns, a crash leaves the rows and the cursor as before the call, or all of them as after
     /// it; after `Ok`, as after it. After an error, open the replica again: it has one of the two.
     pub fn commit(&mut self, changes: &[RowChange], cursor: u64) -> Result<(), ReplicaError>
-        requires held { HasCleanDisk (state S.Store self.old.conn)
-            → HoldsReplica (state S.Store self.old.conn) }
+        requires held { WhereClean HoldsReplica (state S.Store self.old.conn) }
         requires below { cursor < 2 ^ 63 }
-        ensures ok { HasCleanDisk (state S.Store self.new.conn) → OnOk result
-            (HoldsReplica (state S.Store self.new.conn)
-            × Commits changes.now cursor (state S.Store self.old.conn).committed.trees
-            (state S.Store self.new.conn).committed.trees) }
-        ensures stands { HasCleanDisk (state S.Store self.new.conn) → OnOk result
-            ((db : Trees) → (state S.Store self.new.conn).may_leave db
-            → db ≡ (state S.Store self.new.conn).committed.trees) }
+        ensures ok { Makes result (HoldsCommit changes.now cursor)
+            (state S.Store self.old.conn) (state S.Store self.new.conn) }
+        ensures stands { Reaches result LeavesCommitted (state S.Store self.new.conn) }
         ensures crash { HasCleanDisk (state S.Store self.new.conn)
             → (db : Trees) → (state S.Store self.new.conn).may_leave db
             → (db ≡ (state S.Store self.old.conn).committed.trees)
@@ -104,33 +93,27 @@ impl<S: Alter> Replica<S> {
 
     /// The stored cursor. Changes nothing.
     pub fn cursor(&mut self) -> Result<u64, ReplicaError>
-        requires { HasCleanDisk (state S.Store self.old.conn)
-            → HoldsReplica (state S.Store self.old.conn) }
+        requires { WhereClean HoldsReplica (state S.Store self.old.conn) }
         ensures stored { HasCleanDisk (state S.Store self.new.conn)
             → IfOk result (HasCursor (state S.Store self.old.conn).committed.trees) }
-        ensures same { HasCleanDisk (state S.Store self.new.conn) → OnOk result
-            (IsUnchanged (state S.Store self.old.conn) (state S.Store self.new.conn)) }
-        ensures held { HasCleanDisk (state S.Store self.new.conn)
-            → OnOk result (HoldsReplica (state S.Store self.new.conn)) }
+        ensures same { Makes result IsUnchanged
+            (state S.Store self.old.conn) (state S.Store self.new.conn) }
+        ensures held { Reaches result HoldsReplica (state S.Store self.new.conn) }
         ensures usable { HasCleanDisk (state S.Store self.new.conn) → result ≡ Err Unusable → ⊥ }
-        ensures survives { Survives (state S.Store self.old.conn) (state S.Store self.new.conn)
-            (λ _. ⊥) }
+        ensures survives { AddsNone (state S.Store self.old.conn) (state S.Store self.new.conn) }
         ensures same_schema { self.new.schema ≡ self.old.schema }
     {
-        match reported(stored_marks(&mut self.conn)) {
-            Ok(marks) => match only_mark(&marks) {
-                Some(place) => Ok(place),
-                None => Err(ReplicaError::Unusable),
-            },
-            Err(error) => Err(error),
+        let marks = reported(stored_marks(&mut self.conn))?;
+        match only_mark(&marks) {
+            Some(place) => Ok(place),
+            None => Err(ReplicaError::Unusable),
         }
     }
 
     /// The stored rows, as tables that keep every table of the schema, and the stored cursor.
     /// Answers `Unusable` if what is stored isn't rows of the schema. Changes nothing.
     pub fn load(&mut self, alloc: Global) -> Result<(Tables, u64), ReplicaError>
-        requires { HasCleanDisk (state S.Store self.old.conn)
-            → HoldsReplica (state S.Store self.old.conn) }
+        requires { WhereClean HoldsReplica (state S.Store self.old.conn) }
         ensures rows { HasCleanDisk (state S.Store self.new.conn) → IfOk result (λ r.
             LoadsRows (arc_value self.old.schema)
             (Stores (state S.Store self.old.conn).committed.trees) r.0) }
@@ -139,12 +122,10 @@ impl<S: Alter> Replica<S> {
         ensures unusable { HasCleanDisk (state S.Store self.new.conn) → result ≡ Err Unusable
             → AreSchemaRows (arc_value self.old.schema)
             (Stores (state S.Store self.old.conn).committed.trees) → ⊥ }
-        ensures same { HasCleanDisk (state S.Store self.new.conn) → OnOk result
-            (IsUnchanged (state S.Store self.old.conn) (state S.Store self.new.conn)) }
-        ensures held { HasCleanDisk (state S.Store self.new.conn)
-            → OnOk result (HoldsReplica (state S.Store self.new.conn)) }
-        ensures survives { Survives (state S.Store self.old.conn) (state S.Store self.new.conn)
-            (λ _. ⊥) }
+        ensures same { Makes result IsUnchanged
+            (state S.Store self.old.conn) (state S.Store self.new.conn) }
+        ensures held { Reaches result HoldsReplica (state S.Store self.new.conn) }
+        ensures survives { AddsNone (state S.Store self.old.conn) (state S.Store self.new.conn) }
         ensures keeps { IfOk result (λ r. KeepsRows (state S.Store self.new.conn) r.0.rows r.1) }
         ensures same_schema { self.new.schema ≡ self.old.schema }
     {
@@ -154,26 +135,21 @@ impl<S: Alter> Replica<S> {
     }
 
     fn tables(&mut self, alloc: Global) -> Result<Tables, ReplicaError>
-        requires { HasCleanDisk (state S.Store self.old.conn)
-            → HoldsReplica (state S.Store self.old.conn) }
+        requires { WhereClean HoldsReplica (state S.Store self.old.conn) }
         ensures rows { HasCleanDisk (state S.Store self.new.conn) → IfOk result
             (LoadsRows (arc_value self.old.schema)
             (Stores (state S.Store self.old.conn).committed.trees)) }
         ensures unusable { HasCleanDisk (state S.Store self.new.conn) → result ≡ Err Unusable
             → AreSchemaRows (arc_value self.old.schema)
             (Stores (state S.Store self.old.conn).committed.trees) → ⊥ }
-        ensures same { HasCleanDisk (state S.Store self.new.conn) → OnOk result
-            (IsUnchanged (state S.Store self.old.conn) (state S.Store self.new.conn)) }
-        ensures held { HasCleanDisk (state S.Store self.new.conn)
-            → OnOk result (HoldsReplica (state S.Store self.new.conn)) }
-        ensures survives { Survives (state S.Store self.old.conn) (state S.Store self.new.conn)
-            (λ _. ⊥) }
+        ensures same { Makes result IsUnchanged
+            (state S.Store self.old.conn) (state S.Store self.new.conn) }
+        ensures held { Reaches result HoldsReplica (state S.Store self.new.conn) }
+        ensures survives { AddsNone (state S.Store self.old.conn) (state S.Store self.new.conn) }
         ensures same_schema { self.new.schema ≡ self.old.schema }
     {
-        match reported(stored_rows(&mut self.conn)) {
-            Ok(answer) => tables_of(alloc, &self.schema, &answer),
-            Err(error) => Err(error),
-        }
+        let answer = reported(stored_rows(&mut self.conn))?;
+        tables_of(alloc, &self.schema, &answer)
     }
 
     /// Hands the connection back.

@@ -20,7 +20,7 @@ use Rattle.replica_store.specs.Picture.{mark_record, IsNewReplica}
 use Rattle.replica_store.specs.Inside.{IsBlankInside, HasRowTable, HasBothTables, IsNewInside}
 use Rattle.replica_store.proofs.statements.Texts.{MakesThisTable, unplaced_mark, with_row_table, with_mark_table, create_row_text}
 use Rattle.replica_store.proofs.statements.Texts.{makes_row_table, create_mark_text, makes_mark_table}
-use Rattle.replica_store.proofs.statements.Texts.{first_mark_text, first_mark_terms, first_mark_command, first_mark_plain}
+use Rattle.replica_store.proofs.statements.Texts.{first_mark_text, first_mark_terms, means_first_mark}
 use Rattle.replica_store.proofs.statements.Parts.{not_stopped, value_given, two_not_zero, cast_null, cast_int}
 
 -- the schema and the trees once the table is made
@@ -94,8 +94,8 @@ first_mark_put old new (Ok count) was h =
     let db = old.now.trees in
     let command = Insert 1 (Values first_mark_terms 3) in
     let w =
-    runs_as first_mark_text [] old new replica_schema was.schema command first_mark_command first_mark_plain count
-    h.0 in
+    runs_as first_mark_text [] old new replica_schema was.schema command means_first_mark.command
+    means_first_mark.plain count h.0 in
     let text = statement_of first_mark_text (understood replica_schema first_mark_text) in
     let done = not_stopped (subst (λ s. Does old.step_limit (mode_of old) []
     (record old.now { schema = s }) text None command (Ok (w.tally, new.now))) was.schema w.changed) in

@@ -1,7 +1,9 @@
 -- Tables that get one row of an answer after another.
 use Rattle.std.proofs.Common.{◌≡◌, ◌⊎◌, inl, inr, ℕ, pos, Bool, true, false, cond, List, [], ◌∷◌, ◌++◌, Option}
 use Rattle.std.proofs.Common.{Some, None, option_map, length, replicate, refl, sym, ap, subst, ◌∙◌}
+use Rattle.std.proofs.Common.{◌+◌, ◌<◌, get_or, take}
 use Rattle.std.specs.FinMap as map
+use Rattle.std.proofs.lemmas.List.{take_more}
 use Rattle.sqlite.specs.Order.{Row}
 use Rattle.sqlite_value.specs.declared.value.Value.TheVariants.{Int, Blob}
 use Rattle.sqlite_rules.specs.Lists.{Has}
@@ -35,6 +37,11 @@ puts_new_row old new key row none is = record {
       ∙ ap (option_map row_body) (get_put old.rows key q (Some row))
       ∙ body_of_cond (same_key q key) row (map.get old.rows q);
 }
+
+-- the rows up to an item's place, and the item
+pub next_taken : (all : List Row) (at : ℕ) (item : Row) → at < length all → item ≡ get_or all at item
+    → take (at + 1) all ≡ take at all ++ item ∷ []
+next_taken all at item inside is = take_more all at item inside ∙ ap (λ x. take at all ++ x ∷ []) (sym is)
 
 some_body : {a b : List ℕ} → ◌≡◌ {A = Option (List ℕ)} (Some a) (Some b) → a ≡ b
 some_body e = cc

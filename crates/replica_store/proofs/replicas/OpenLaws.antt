@@ -8,7 +8,9 @@ use Rattle.std.proofs.lemmas.Bool.{and_parts}
 use Rattle.sqlite_value.specs.declared.value.Value.{Value}
 use Rattle.sqlite_value.specs.declared.value.Value.TheVariants.{Null, Int, Real, Text, Blob}
 use Rattle.sqlite_value.specs.Order.{column}
+use Rattle.sqlite.specs.Effect.{Database}
 use Rattle.sqlite.specs.Order.{Row}
+use Rattle.sqlite.specs.State.{State}
 use Rattle.sqlite.specs.Tree.{Trees, rowid}
 use Rattle.sqlite_trees.specs.View.{View, is_int, IsOrdered, IsShaped}
 use Rattle.sqlite_trees.specs.Objects.{catalog_tree, IsListed}
@@ -23,7 +25,7 @@ use Rattle.sqlite_rules.proofs.ListLemmas.{all_has, test_has, fails_has}
 use Rattle.sqlite_rules.proofs.TableLemmas.{int_is}
 use Rattle.cs_model.specs.declared.row_key.RowKey.{RowKey}
 use Rattle.replica_store.specs.Layout.{plain_column, replica_schema, rb_row, rb_mark}
-use Rattle.replica_store.specs.Picture.{row_record, mark_record, HasCursor, IsReplica}
+use Rattle.replica_store.specs.Picture.{row_record, mark_record, HasCursor, HoldsReplica, IsReplica}
 use Rattle.replica_store.specs.Reading.{HasTableColumns, AreRowRecords, ListsRows, shown_row, shown_mark, is_natural}
 use Rattle.replica_store.specs.Reading.{is_blob_value, is_shown_record, IsMarkAnswer}
 
@@ -177,12 +179,19 @@ replica_by_parts db has true marks rows mark =
 replica_by_parts db has false marks rows mark =
     (λ m. absurd (true≢false (sym m)), λ r. absurd (true≢false (sym (rows.1 r.rows))))
 
+-- a replica's mark is what its query answers
+pub mark_answered : (s : State) (answer : List Row) (held : HoldsReplica s)
+    → ListsRows shown_mark (s.now.trees 2) answer → IsMarkAnswer answer held.replica.mark.0
+mark_answered s answer held lists = mark_shown s.committed.trees answer held.replica.mark.0
+    (subst (λ (d : Database). ListsRows shown_mark (d.trees 2) answer) held.settled lists) held.replica.mark.1
+
 -- the place that is read is the one that is stored
-pub cursor_read : (db : Trees) (answer : List Row) (place read : ℕ) → HasCursor db place
-    → ListsRows shown_mark (db 2) answer → IsMarkAnswer answer read → HasCursor db read
-cursor_read db answer place read there lists it =
-    let shown = mark_shown db answer place lists there in
+pub cursor_read : (s : State) (answer : List Row) (read : ℕ) → HoldsReplica s
+    → ListsRows shown_mark (s.now.trees 2) answer → IsMarkAnswer answer read → HasCursor s.committed.trees read
+cursor_read s answer read held lists it =
+    let place = held.replica.mark.0 in
+    let shown = mark_answered s answer held lists in
     let row : shown.row ≡ it.row = has_only _ _
     (subst (λ l. Has l shown.row) it.one (subst (λ l. Has l shown.row) (sym shown.one) (inl refl))) in
     let same : Int (pos place) ≡ Int (pos read) = sym shown.at ∙ ap (λ y. column y 1) row ∙ it.at in
-    there ∙ ap (λ v. (Int (pos 1) ∷ Null ∷ v ∷ []) ∷ []) same
+    held.replica.mark.1 ∙ ap (λ v. (Int (pos 1) ∷ Null ∷ v ∷ []) ∷ []) same

@@ -22,7 +22,7 @@ use Rattle.sqlite_rules.specs.Lists.{Has}
 use Rattle.sqlite_rules.proofs.ListLemmas.{all_has, all_from}
 use Rattle.sqlite_rules.proofs.ProbeLemmas.{has_mapped, mapped_has}
 use Rattle.replica_store.specs.Layout.{replica_schema}
-use Rattle.replica_store.specs.Reading.{shown_row, shown_mark, ListsRows}
+use Rattle.replica_store.specs.Reading.{ListsRows}
 
 -- the query of these terms of each row of a tree
 abbrev pub query_of_all : ℕ → List Term → Query
@@ -38,21 +38,22 @@ query_of_all tree project = record {
   offset = lit (Int (pos 0));
 }
 
+-- the text asks for these terms of each row of a tree, under these names
+pub record Asks (text : List ℕ) (tree : ℕ) (terms : List Term) (names : List (List ℕ)) : Type 0 where
+  pub command : command_of (understood replica_schema text)
+      ≡ Select (record { lets = []; body = query_of_all tree terms }) names
+  pub unlisted : reads_listing replica_schema text ≡ false
+  pub plain : IsPlain (understood replica_schema text)
+
 abbrev pub rows_query_text : List ℕ
 rows_query_text = codes "SELECT tab, rowkey, body FROM rb_row"
 
 abbrev pub rows_terms : List Term
 rows_terms = col 1 1 ∷ col 1 2 ∷ col 1 3 ∷ []
 
-pub rows_command : (command_of (understood replica_schema rows_query_text) ≡ Select
-    (record { lets = []; body = query_of_all 0 rows_terms }) (codes "tab" ∷ codes "rowkey" ∷ codes "body" ∷ []))
-    × (reads_listing replica_schema rows_query_text ≡ false)
+pub asks_rows : Asks rows_query_text 0 rows_terms (codes "tab" ∷ codes "rowkey" ∷ codes "body" ∷ [])
 unfolding understood everything
-rows_command = (refl, refl)
-
-pub rows_plain : IsPlain (understood replica_schema rows_query_text)
-unfolding understood everything
-rows_plain = (refl, refl)
+asks_rows = record { command = refl; unlisted = refl; plain = (refl, refl) }
 
 abbrev pub marks_query_text : List ℕ
 marks_query_text = codes "SELECT id, place FROM rb_mark"
@@ -60,15 +61,9 @@ marks_query_text = codes "SELECT id, place FROM rb_mark"
 abbrev pub marks_terms : List Term
 marks_terms = col 1 0 ∷ col 1 2 ∷ []
 
-pub marks_command : (command_of (understood replica_schema marks_query_text) ≡ Select
-    (record { lets = []; body = query_of_all 2 marks_terms }) (codes "id" ∷ codes "place" ∷ []))
-    × (reads_listing replica_schema marks_query_text ≡ false)
+pub asks_marks : Asks marks_query_text 2 marks_terms (codes "id" ∷ codes "place" ∷ [])
 unfolding understood everything
-marks_command = (refl, refl)
-
-pub marks_plain : IsPlain (understood replica_schema marks_query_text)
-unfolding understood everything
-marks_plain = (refl, refl)
+asks_marks = record { command = refl; unlisted = refl; plain = (refl, refl) }
 
 has_in_singles : {X Y : Type 0} (f : X → Y) (xs : List X) (y : Y) → Has (flat_map (λ x. f x ∷ []) xs) y → (x : X)
     × Has xs x × (y ≡ f x)
@@ -116,19 +111,13 @@ all_listed tree project db answer a =
           ∙ length_of_singles (λ (r : Row). [] ∷ r ∷ []) (db tree);
     }
 
-pub rows_listed : (old new : State) (rows : List Row) → old.now.schema ≡ replica_schema
-    → Shown rows_query_text [] old new rows → ListsRows shown_row (old.now.trees 0) rows
-rows_listed old new rows has h =
-    let read =
-    reads_as rows_query_text [] old new replica_schema has _ rows_command.0 rows_plain rows_command.1 rows h in
-    all_listed 0 rows_terms (overlay old.now.trees []) rows (read.answer Null)
-
-pub marks_listed : (old new : State) (rows : List Row) → old.now.schema ≡ replica_schema
-    → Shown marks_query_text [] old new rows → ListsRows shown_mark (old.now.trees 2) rows
-marks_listed old new rows has h =
-    let read =
-    reads_as marks_query_text [] old new replica_schema has _ marks_command.0 marks_plain marks_command.1 rows h in
-    all_listed 2 marks_terms (overlay old.now.trees []) rows (read.answer Null)
+-- what such a query shows is the terms of each row
+pub rows_listed : (text : List ℕ) (tree : ℕ) (terms : List Term) (names : List (List ℕ)) → Asks text tree terms names
+    → (old new : State) (rows : List Row) → old.now.schema ≡ replica_schema → Shown text [] old new rows
+    → ListsRows (λ r. eval_all terms ([] ∷ r ∷ [])) (overlay old.now.trees [] tree) rows
+rows_listed text tree terms names asks old new rows has h =
+    let read = reads_as text [] old new replica_schema has _ asks.command asks.plain asks.unlisted rows h in
+    all_listed tree terms (overlay old.now.trees []) rows (read.answer Null)
 
 -- a query that shows its rows changes nothing
 pub shown_changes_nothing : (text : List ℕ) (old new : State) (rows : List Row) → old.now.schema ≡ replica_schema

@@ -1,12 +1,13 @@
 -- What the answer to the query of all rows shows is what is stored.
 use Rattle.std.proofs.Common.{◌≡◌, ℕ, ℤ, List, refl, sym, ap, subst, ◌∙◌}
 use Rattle.sqlite.specs.Order.{Row}
-use Rattle.sqlite.specs.Tree.{Trees}
+use Rattle.sqlite.specs.Effect.{Database}
+use Rattle.sqlite.specs.State.{State}
 use Rattle.sqlite_rules.specs.Lists.{Has}
 use Rattle.cs_model.specs.declared.row_key.RowKey.{RowKey}
 use Rattle.cs_model.specs.declared.shape.Shape.{Shape}
 use Rattle.cs_apply.specs.State.{TableState}
-use Rattle.replica_store.specs.Picture.{StoredRows, Stores, AreSameRows, IsReplica, row_record}
+use Rattle.replica_store.specs.Picture.{StoredRows, Stores, AreSameRows, HoldsReplica, row_record}
 use Rattle.replica_store.specs.Reading.{ListsRows, shown_row}
 use Rattle.replica_store.specs.Loading.{AreSchemaRows, ShowsBody, ShownBodies, AllShow, LoadsRows}
 use Rattle.replica_store.proofs.replicas.LoadLaws.{shows_one}
@@ -16,26 +17,31 @@ shows_its_record : (x r : Row) (id : ℤ) (key : RowKey) (body : List ℕ) → x
 shows_its_record x r id key body shown is =
     subst (λ y. ShowsBody y key body) (sym (shown ∙ ap shown_row is)) (record { table = refl; bytes = refl; is = refl })
 
-module _ (db : Trees) (answer : List Row) (rep : IsReplica db) (lists : ListsRows shown_row (db 0) answer) where
+module _ (s : State) (answer : List Row) (held : HoldsReplica s)
+    (lists : ListsRows shown_row (s.now.trees 0) answer) where
+  -- the answer lists the rows that are committed
+  stored : ListsRows shown_row (s.committed.trees 0) answer
+  stored = subst (λ (d : Database). ListsRows shown_row (d.trees 0) answer) held.settled lists
+
   pub all_show : AllShow answer
   all_show x there =
-      let r = lists.sound x there in
-      let it = rep.rows r.0 r.1 in
+      let r = stored.sound x there in
+      let it = held.replica.rows r.0 r.1 in
       (it.1, it.2, shows_its_record x r.0 it.0 it.1 it.2 r.2 it.3)
 
-  pub shown_is_stored : AreSameRows (Stores db) (ShownBodies answer)
+  pub shown_is_stored : AreSameRows (Stores s.committed.trees) (ShownBodies answer)
   shown_is_stored key body = (
-    λ s. (
-      shown_row (row_record s.0 key body),
-      lists.complete (row_record s.0 key body) s.1,
+    λ h. (
+      shown_row (row_record h.0 key body),
+      stored.complete (row_record h.0 key body) h.1,
       record { table = refl; bytes = refl; is = refl },
     ),
-    λ s.
-        let r = lists.sound s.0 s.1 in
-        let it = rep.rows r.0 r.1 in
-        let one = shows_one s.0 it.1 key it.2 body (shows_its_record s.0 r.0 it.0 it.1 it.2 r.2 it.3) s.2 in
+    λ h.
+        let r = stored.sound h.0 h.1 in
+        let it = held.replica.rows r.0 r.1 in
+        let one = shows_one h.0 it.1 key it.2 body (shows_its_record h.0 r.0 it.0 it.1 it.2 r.2 it.3) h.2 in
         let same : r.0 ≡ row_record it.0 key body = it.3 ∙ (λ j. row_record it.0 (sym one.0 j) (sym one.1 j)) in
-        (it.0, subst (Has (db 0)) same r.1),
+        (it.0, subst (Has (s.committed.trees 0)) same r.1),
   )
 
 pub loads_same_rows : (schema : List Shape) (a b : StoredRows) (tables : TableState) → AreSameRows a b

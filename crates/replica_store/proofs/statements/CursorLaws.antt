@@ -22,7 +22,7 @@ use Rattle.replica_store.specs.Layout.{rb_mark, replica_schema}
 use Rattle.replica_store.specs.Picture.{mark_record}
 use Rattle.replica_store.specs.Inside.{IsInside, SetsCursor}
 use Rattle.replica_store.proofs.statements.Parts.{not_stopped, value_given, two_not_zero, cast_null, cast_int, mark_at_one}
-use Rattle.replica_store.proofs.statements.Texts.{set_cursor_text, cursor_query, cursor_command, cursor_plain}
+use Rattle.replica_store.proofs.statements.Texts.{set_cursor_text, cursor_query, means_set_cursor}
 
 pub sets_the_cursor : (old new : State) (place : ℕ) (r : Result ℕ Error) → IsInside old
     → ExecutesInside 0 set_cursor_text (Int (pos place) ∷ []) old new r → OnOk r (SetsCursor place old new)
@@ -34,7 +34,8 @@ sets_the_cursor old new place (Ok count) i h =
     let first = mark_record i.replica.mark.0 in
     let command = Update 1 (record { lets = []; body = cursor_query }) in
     let w =
-    runs_as set_cursor_text params old new replica_schema i.schema command cursor_command cursor_plain count h.0 in
+    runs_as set_cursor_text params old new replica_schema i.schema command means_set_cursor.command
+    means_set_cursor.plain count h.0 in
     let text = statement_of set_cursor_text (understood replica_schema set_cursor_text) in
     let done = not_stopped (subst (λ s. Does old.step_limit (mode_of old) params
     (record old.now { schema = s }) text None command (Ok (w.tally, new.now))) i.schema w.changed) in

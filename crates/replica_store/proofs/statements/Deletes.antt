@@ -25,7 +25,7 @@ use Rattle.replica_store.specs.Layout.{replica_schema, rb_row}
 use Rattle.replica_store.specs.Picture.{row_record, Stores, AreSameRows, IsReplica}
 use Rattle.replica_store.specs.Inside.{WithoutRow, IsInside, ChangesRows}
 use Rattle.replica_store.proofs.statements.Parts.{not_stopped, value_given, two_not_zero}
-use Rattle.replica_store.proofs.statements.Texts.{delete_text, delete_tests, delete_query, delete_command, delete_plain}
+use Rattle.replica_store.proofs.statements.Texts.{delete_text, delete_tests, delete_query, means_delete}
 use Rattle.replica_store.proofs.statements.DeletedRows.{key_params, row_left, row_was, still_rising}
 
 -- no LIMIT, said in two ways
@@ -56,7 +56,8 @@ deletes old new key count has h =
     let params = key_params key in
     let db = old.now.trees in
     let command = Delete 0 (record { lets = []; body = delete_query }) in
-    let w = runs_as delete_text params old new replica_schema has command delete_command delete_plain count h in
+    let w =
+    runs_as delete_text params old new replica_schema has command means_delete.command means_delete.plain count h in
     let text = statement_of delete_text (understood replica_schema delete_text) in
     let done = not_stopped (subst (λ s. Does old.step_limit (mode_of old) params
     (record old.now { schema = s }) text None command (Ok (w.tally, new.now))) has w.changed) in

@@ -8,7 +8,8 @@ use Rattle.sqlite_value.proofs.OrderLemmas.{value_cmp_total}
 use Rattle.sqlite_sql.specs.Ops.{unary}
 use Rattle.sqlite.specs.Cast.{cast}
 use Rattle.sqlite.specs.Kind.TheVariants.{Integer}
-use Rattle.sqlite.specs.Tree.{has_rowid}
+use Rattle.sqlite.specs.State.{State, HasCleanDisk, Survives}
+use Rattle.sqlite.specs.Tree.{Trees, has_rowid}
 use Rattle.replica_store.specs.Picture.{mark_record}
 
 -- a part that gave a value did not stop on the way
@@ -18,6 +19,11 @@ not_stopped (inr on) = on
 
 pub value_given : {B E : Type 0} {a b : B} → ◌≡◌ {A = Result B E} (Ok a) (Ok b) → a ≡ b
 value_given e = cc
+
+-- a disk that is clean after a statement was so before it
+pub was_clean : (old new : State) (Commits : Trees → Type 0) → Survives old new Commits → HasCleanDisk new
+    → HasCleanDisk old
+was_clean old new Commits s clean = omega (arith, s.clean)
 
 pub two_not_zero : ◌≡◌ {A = ℕ} 2 0 → ⊥
 two_not_zero e = omega arith

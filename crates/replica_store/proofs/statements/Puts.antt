@@ -23,7 +23,7 @@ use Rattle.replica_store.specs.Layout.{replica_schema, rb_row}
 use Rattle.replica_store.specs.Picture.{row_record, Stores, AreSameRows}
 use Rattle.replica_store.specs.Inside.{WithBody, IsInside, ChangesRows}
 use Rattle.replica_store.proofs.statements.Parts.{not_stopped, value_given, two_not_zero, cast_null, cast_int}
-use Rattle.replica_store.proofs.statements.Texts.{insert_text, insert_terms, insert_command, insert_plain}
+use Rattle.replica_store.proofs.statements.Texts.{insert_text, insert_terms, means_insert}
 use Rattle.replica_store.proofs.statements.DeletedRows.{key_of_parts}
 
 -- the parameters of an insertion
@@ -44,7 +44,8 @@ puts_row old new key body count has h =
     let params = row_params key body in
     let db = old.now.trees in
     let command = Insert 0 (Values insert_terms 4) in
-    let w = runs_as insert_text params old new replica_schema has command insert_command insert_plain count h in
+    let w =
+    runs_as insert_text params old new replica_schema has command means_insert.command means_insert.plain count h in
     let text = statement_of insert_text (understood replica_schema insert_text) in
     let done = not_stopped (subst (λ s. Does old.step_limit (mode_of old) params
     (record old.now { schema = s }) text None command (Ok (w.tally, new.now))) has w.changed) in

@@ -10,6 +10,7 @@ use Rattle.sqlite_sql.specs.Query.{Query, inner, end}
 use Rattle.sqlite_schema.specs.declared.schema.Schema.{Schema}
 use Rattle.sqlite_schema.specs.declared.schema.Table.{Table}
 use Rattle.sqlite.specs.Source.TheVariants.{Values}
+use Rattle.sqlite.specs.Command.{Command}
 use Rattle.sqlite.specs.Command.TheVariants.{Insert, Delete, Update, CreateTable}
 use Rattle.std.proofs.lemmas.Fmt.{decimal_digit}
 use Rattle.sqlite.specs.Change.{created}
@@ -53,19 +54,20 @@ pub makes_mark_table : MakesThisTable rows_schema create_mark_text unplaced_mark
 unfolding understood everything
 makes_mark_table = record { command = refl; statement = refl; defines = refl; plain = (refl, refl) }
 
+-- over a replica's tables the text means this command
+pub record Means (text : List ℕ) (meant : Command) : Type 0 where
+  pub command : command_of (understood replica_schema text) ≡ meant
+  pub plain : IsPlain (understood replica_schema text)
+
 abbrev pub first_mark_text : List ℕ
 first_mark_text = codes "INSERT INTO rb_mark VALUES (1, 0)"
 
 abbrev pub first_mark_terms : List Term
 first_mark_terms = lit (Int (pos 1)) ∷ lit Null ∷ lit (Int (pos 0)) ∷ []
 
-pub first_mark_command : command_of (understood replica_schema first_mark_text) ≡ Insert 1 (Values first_mark_terms 3)
+pub means_first_mark : Means first_mark_text (Insert 1 (Values first_mark_terms 3))
 unfolding understood everything
-first_mark_command = refl
-
-pub first_mark_plain : IsPlain (understood replica_schema first_mark_text)
-unfolding understood everything
-first_mark_plain = (refl, refl)
+means_first_mark = record { command = refl; plain = (refl, refl) }
 
 abbrev pub delete_text : List ℕ
 delete_text = codes "DELETE FROM rb_row WHERE tab = ?1 AND rowkey = ?2"
@@ -77,14 +79,9 @@ delete_tests = op2 (Compare Eq Binary) (col 1 1) (op1 ToNumeric (col 0 0)) ∷ o
 abbrev pub delete_query : Query
 delete_query = record (rowid_query 0 delete_tests) { limit = lit (Int (negsuc 0)); offset = lit (Int (pos 0)) }
 
-pub delete_command : command_of (understood replica_schema delete_text) ≡ Delete 0
-    (record { lets = []; body = delete_query })
+pub means_delete : Means delete_text (Delete 0 (record { lets = []; body = delete_query }))
 unfolding understood everything
-delete_command = refl
-
-pub delete_plain : IsPlain (understood replica_schema delete_text)
-unfolding understood everything
-delete_plain = (refl, refl)
+means_delete = record { command = refl; plain = (refl, refl) }
 
 abbrev pub insert_text : List ℕ
 insert_text = codes "INSERT INTO rb_row VALUES (?1, ?2, ?3)"
@@ -92,13 +89,9 @@ insert_text = codes "INSERT INTO rb_row VALUES (?1, ?2, ?3)"
 abbrev pub insert_terms : List Term
 insert_terms = lit Null ∷ col 0 0 ∷ col 0 1 ∷ col 0 2 ∷ []
 
-pub insert_command : command_of (understood replica_schema insert_text) ≡ Insert 0 (Values insert_terms 4)
+pub means_insert : Means insert_text (Insert 0 (Values insert_terms 4))
 unfolding understood everything
-insert_command = refl
-
-pub insert_plain : IsPlain (understood replica_schema insert_text)
-unfolding understood everything
-insert_plain = (refl, refl)
+means_insert = record { command = refl; plain = (refl, refl) }
 
 abbrev pub set_cursor_text : List ℕ
 set_cursor_text = codes "UPDATE rb_mark SET place = ?1"
@@ -116,11 +109,6 @@ cursor_query = record {
   offset = lit (Int (pos 0));
 }
 
-pub cursor_command : command_of (understood replica_schema set_cursor_text) ≡ Update 1
-    (record { lets = []; body = cursor_query })
+pub means_set_cursor : Means set_cursor_text (Update 1 (record { lets = []; body = cursor_query }))
 unfolding understood everything
-cursor_command = refl
-
-pub cursor_plain : IsPlain (understood replica_schema set_cursor_text)
-unfolding understood everything
-cursor_plain = (refl, refl)
+means_set_cursor = record { command = refl; plain = (refl, refl) }

@@ -1,18 +1,14 @@
 use Rattle.std.proofs.Common.{◌≡◌, pos, w64, to_z, of_z, to_z-of_z, arith, rules}
-use Rattle.sqlite.specs.State.{HasCleanDisk}
-use Rattle.sqlite.specs.Held.{state}
 use Rattle.replica_store.proofs.statements.Puts.{puts_in_row}
+use Rattle.replica_store.proofs.statements.Parts.{was_clean}
 use Rattle.replica_store.proofs.commit.put_in.Goals as goal
 
 pub returns-clause-changes : goal.returns-clause-changes
 returns-clause-changes g c clean =
-    let old = state g.S.Store c.args.tx.now.conn.now in
-    let new = state g.S.Store c.execute.new.self.conn.now in
-    let early : HasCleanDisk old = omega (arith, c.execute.ensures.survives.clean) in
-    let i = c.requires early in
+    let i = c.requires (was_clean _ _ _ c.execute.ensures.survives clean) in
     let number : c.in_ok-table.table ≡ pos c.args.key.now.table = search rules in
     let same : to_z w64 (of_z w64 c.in_ok-table.table) ≡ c.in_ok-table.table = grind (arith, to_z-of_z) in
-    puts_in_row old new c.args.key.now c.args.body.now c.execute.result i
+    puts_in_row _ _ c.args.key.now c.args.body.now c.execute.result i
     (rw (
       c.params-to_sql.ensures,
       c.params-to_sql-2.ensures,

@@ -1,12 +1,12 @@
-use Rattle.std.proofs.Common.{◌≡◌, ◌+◌, ◌<◌, ◌++◌, ◌∷◌, [], Err, true, drop, length, replicate, take, sym, ap}
-use Rattle.std.proofs.Common.{subst, ◌∙◌, rules}
+use Rattle.std.proofs.Common.{◌≡◌, ◌+◌, ◌<◌, Err, true, drop, length, replicate, take, sym, ap}
+use Rattle.std.proofs.Common.{subst, rules}
 use Rattle.std.specs.Arc.{arc_value}
 use Rattle.std.specs.FinMap as map
-use Rattle.std.proofs.lemmas.List.{take_more, take-append-drop}
+use Rattle.std.proofs.lemmas.List.{take-append-drop}
 use Rattle.sqlite_rules.proofs.ListLemmas.{has_front, has_last}
 use Rattle.replica_store.specs.Loading.{LoadsRows, ShownBodies, AddsShown}
 use Rattle.replica_store.specs.declared.error.ReplicaError.TheVariants.{Unusable}
-use Rattle.replica_store.proofs.replicas.LoadLaws.{loads_none, loads_one_more, never_rows}
+use Rattle.replica_store.proofs.replicas.LoadLaws.{loads_none, loads_one_more, never_rows, next_taken}
 use Rattle.replica_store.proofs.load.tables_of.Goals as goal
 
 pub loop-shown-init : goal.loop-shown-init
@@ -26,8 +26,7 @@ returns-in_err-add_shown-clause-unusable c err show are =
     let at = c.loop-shown.shown-index in
     let item = c.shown-item.result in
     let inside : at < length all = search rules in
-    let more : take (at + 1) all ≡ take at all ++ item ∷ [] = take_more all at item inside
-    ∙ ap (λ x. take at all ++ x ∷ []) (sym c.shown-item.is) in
+    let more = next_taken all at item inside c.shown-item.is in
     let failed : c.add_shown.result ≡ Err Unusable = search rules in
     never_rows (arc_value c.args.schema.now) (take at all) all item c.loop-shown.tables c.loop-shown.invariant
     (c.add_shown.ensures.unusable failed)
@@ -41,8 +40,7 @@ loop-shown-preserved c =
     let at = c.loop-shown.shown-index in
     let item = c.shown-item.result in
     let inside : at < length all = search rules in
-    let more : take (at + 1) all ≡ take at all ++ item ∷ [] = take_more all at item inside
-    ∙ ap (λ x. take at all ++ x ∷ []) (sym c.shown-item.is) in
+    let more = next_taken all at item inside c.shown-item.is in
     let adds : AddsShown item c.loop-shown.tables c.add_shown.new.tables = search rules in
     subst (λ xs. LoadsRows (arc_value c.args.schema.now) (ShownBodies xs) c.add_shown.new.tables) (sym more)
     (loads_one_more (arc_value c.args.schema.now)

@@ -1,0 +1,47 @@
+-- What a call leaves of a connection, where the disk returned what was written.
+use Rattle.std.specs.Prelude.{◌≡◌, ◌⊎◌, ℕ, IsTrue, OnOk, Result}
+use Rattle.sqlite.specs.State.{HasCleanDisk, State, Survives}
+use Rattle.sqlite.specs.Tree.{Trees}
+use Rattle.par_apply.specs.RowChanges.{RowChanges}
+use Rattle.replica_store.specs.Changes.{Commits}
+use Rattle.replica_store.specs.Picture.{HoldsReplica, IsNewReplica}
+use Rattle.replica_store.specs.Reading.{HasTableColumns}
+
+-- this is so, where the disk returned what was written
+abbrev pub WhereClean : (State → Type 0) → State → Type 0
+WhereClean Is s = HasCleanDisk s → Is s
+
+-- the same after a call that returned Ok
+abbrev pub Reaches : {T E : Type 0} → Result T E → (State → Type 0) → State → Type 0
+Reaches result Is new = HasCleanDisk new → OnOk result (Is new)
+
+-- the same of what was before the call and what is after it
+abbrev pub Makes : {T E : Type 0} → Result T E → (State → State → Type 0) → State → State → Type 0
+Makes result Is old new = HasCleanDisk new → OnOk result (Is old new)
+
+-- a crash leaves nothing that it didn't leave before
+abbrev pub AddsNone : State → State → Type 0
+AddsNone old new = Survives old new (λ _. ⊥)
+
+-- a crash leaves what is committed
+abbrev pub LeavesCommitted : State → Type 0
+LeavesCommitted s = (db : Trees) → s.may_leave db → db ≡ s.committed.trees
+
+-- an open connection has the columns of a replica's tables in each row
+abbrev pub KeepsColumns : State → Type 0
+KeepsColumns s = IsTrue s.is_open → HasTableColumns s.now.trees
+
+-- a new replica is held
+abbrev pub HoldsNew : State → Type 0
+HoldsNew s = HoldsReplica s × IsNewReplica s.committed.trees
+
+-- a replica is held, in which these changes and this cursor are committed
+abbrev pub HoldsCommit : RowChanges → ℕ → State → State → Type 0
+HoldsCommit changes place old new = HoldsReplica new
+    × Commits changes place old.committed.trees new.committed.trees
+
+-- a replica is held, as it was or with these changes and this cursor
+abbrev pub HoldsOneOf : RowChanges → ℕ → State → State → Type 0
+HoldsOneOf changes place old new = HoldsReplica new
+    × ((new.committed.trees ≡ old.committed.trees)
+    ⊎ Commits changes place old.committed.trees new.committed.trees)
