@@ -1,6 +1,6 @@
 //! The tests that the exports need in this crate, since no other crate can call them: with enough
-//! memory the canonical text is written, a text is inverted, and texts are combined. Their contracts
-//! state the rest.
+//! memory the canonical text is written, a text is inverted, and texts are combined. Their
+//! contracts state the rest.
 
 ghost use Rattle.std.specs.Prelude.{◌<◌};
 

@@ -122,8 +122,8 @@ impl HeldTables {
         })
     }
 
-    /// Whether these tables have the same schema, kept tables and rows as the others. Places without
-    /// rows don't count.
+    /// Whether these tables have the same schema, kept tables and rows as the others. Places
+    /// without rows don't count.
     pub(crate) fn is_same(&self, other: &HeldTables) -> bool
         ensures { Decides result (self.now.state ≡ other.now.state) }
     {

@@ -24,8 +24,8 @@ pub(crate) enum KeyBytes<'a> {
     Copied(Octets),
 }
 
-/// The key of a row, its key columns' values in canonical form; or a table's name. Contracts see the
-/// bytes.
+/// The key of a row, its key columns' values in canonical form; or a table's name. Contracts see
+/// the bytes.
 #[derive(Debug, Drop)]
 pub(crate) struct Key<'a> {
     bytes: KeyBytes<'a>,

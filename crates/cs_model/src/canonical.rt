@@ -1,5 +1,5 @@
-//! Encodes changes in canonical form. A text may encode a length with leading zeros, and an indirect
-//! change with any nonzero byte.
+//! Encodes changes in canonical form. A text may encode a length with leading zeros, and an
+//! indirect change with any nonzero byte.
 
 ghost use Rattle.std.specs.Prelude.{◌≡◌, IfOk, IsTrue, OnErr, length, take};
 ghost use Rattle.cs_model.specs.Bytes.{AddsBytes};

@@ -61,8 +61,8 @@ fn has(rt: &impl Abort, alloc: Global, tables: &Tables, numbers: &[u8]) -> Resul
     Ok(())
 }
 
-// Applies a text in parts, and expects this conflict or none, unless memory runs out. The tables have
-// these rows after it.
+// Applies a text in parts, and expects this conflict or none, unless memory runs out. The tables
+// have these rows after it.
 fn goes(
     rt: &impl Abort,
     alloc: Global,

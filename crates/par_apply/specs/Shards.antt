@@ -1,5 +1,6 @@
 -- The shard of a key, and the positions of a shard's changes.
-use Rattle.std.specs.Prelude.{ℕ, suc, Bool, false, ◌==◌, ◌+◌, ◌%◌, List, [], ◌∷◌, Option, Some, None}
+use Rattle.std.specs.Prelude.{ℕ, suc, Bool, false, ◌==◌, ◌+◌, ◌%◌, List, [], ◌∷◌, Option, Some}
+use Rattle.std.specs.Prelude.{None}
 use Rattle.std.specs.Prelude.{sum, if◌then◌else◌}
 use Rattle.cs_model.specs.declared.change.Change.{Change}
 use Rattle.cs_model.specs.declared.row_key.RowKey.{RowKey}

@@ -91,8 +91,8 @@ pub fn commit_durably<S: DurableRows>(
     }
 }
 
-/// A copy of tables with the changes of a plan made. The copy shares the schema. Returns `AllocError`
-/// if memory runs out.
+/// A copy of tables with the changes of a plan made. The copy shares the schema. Returns
+/// `AllocError` if memory runs out.
 pub fn changed_copy(alloc: Global, tables: &Tables, plan: &RowPlan) -> Result<Tables, AllocError>
     requires { RowsFit tables.now (planned_changes plan.now) }
     ensures { IfOk result (λ copy. copy ≡ changed_tables tables.now (planned_changes plan.now)) }

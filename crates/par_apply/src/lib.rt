@@ -1,7 +1,7 @@
 //! A changeset applied by several workers, each with the keys of its shard. The changes of rows are
 //! planned over tables that are only read, staged, and committed without allocation. Theorem:
-//! `apply_split` is `Tables::apply`, for 1 to 16 workers (`laws::splitting`). A plan can be committed to
-//! a durable store and to the tables together (`DurableRows`).
+//! `apply_split` is `Tables::apply`, for 1 to 16 workers (`laws::splitting`). A plan can be
+//! committed to a durable store and to the tables together (`DurableRows`).
 #![tactic(auto)]
 
 mod durable;

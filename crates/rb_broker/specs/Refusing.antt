@@ -27,9 +27,9 @@ with_number n numbers = insert_key nat_cmp numbers n
 abbrev pub has_number : ℕ → List ℕ → Bool
 has_number n numbers = list_any (is_at (nat_cmp n)) numbers
 
--- Why publisher p, who withdrew these entries, can't withdraw the entry of this number. It is another
--- publisher's, or withdrawn already; `Schema` names the first section that clashes in the changeset
--- that the cell shows.
+-- Why publisher p, who withdrew these entries, can't withdraw the entry of this number. It is
+-- another publisher's, or withdrawn already; `Schema` names the first section that clashes in the
+-- changeset that the cell shows.
 abbrev pub RefusesWithdrawal : Cells → ℕ → List ℕ → ℕ → WithdrawRefusal → Type 0
 RefusesWithdrawal cells p withdrawn number withdraw.NotPlaced = Unit {0}
 RefusesWithdrawal cells p withdrawn number withdraw.NotYours =

@@ -12,8 +12,8 @@ use Rattle.rb_broker.specs.declared.refusal.RefusedResume.{RefusedResume}
 use Rattle.rb_broker.specs.declared.refusal.ResumeError.{ResumeError}
 use Rattle.rb_broker.specs.declared.refusal.ResumeError.TheVariants as resuming
 
--- Another state is refused before the desk is asked, and only it. Memory may run out before the state
--- is known.
+-- Another state is refused before the desk is asked, and only it. Memory may run out before the
+-- state is known.
 abbrev pub IsStateWhy : SubscriptionState → TableState → ℕ → ResumeError → Type 0
 IsStateWhy lost tables cursor resuming.OtherState = FitsLost lost tables cursor → ⊥
 IsStateWhy lost tables cursor (resuming.Desk Memory) = Unit {0}
@@ -37,8 +37,8 @@ ReconnectReturns sub cursor (Err (resuming.Desk (Refused why))) =
 
 -- ---- one hold of the lock
 
--- the desk reconnects the subscription at this cursor, and it goes on with these tables; or the desk
--- refuses, or memory runs out
+-- the desk reconnects the subscription at this cursor, and it goes on with these tables; or the
+-- desk refuses, or memory runs out
 abbrev pub RefusesReconnect : ResumeError → ℕ → ℕ → JournaledPicture → JournaledPicture → Type 0
 RefusesReconnect resuming.OtherState sub cursor old new = ⊥
 RefusesReconnect (resuming.Desk error) sub cursor old new =

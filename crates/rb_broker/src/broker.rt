@@ -152,9 +152,9 @@ impl<L: Hall> Broker<L> {
     }
 
     /// Places an item under this number, in one hold of the lock: its cell is set, and the desk has
-    /// placed the number. All memory is allocated before the hold: the item's canonical form, its box and,
-    /// for the first number of a segment, its cells. `Sequencer::turn` calls it. It asks for the
-    /// sequencer's pass, of which there is one, so that nobody else places.
+    /// placed the number. All memory is allocated before the hold: the item's canonical form, its
+    /// box and, for the first number of a segment, its cells. `Sequencer::turn` calls it. It asks
+    /// for the sequencer's pass, of which there is one, so that nobody else places.
     ///
     /// Each refusal hands the item back.
     pub fn place_next<R: Wait>(

@@ -9,7 +9,8 @@ ghost use Rattle.rb_desk.specs.declared.step.Step.TheVariants as step;
 ghost use Rattle.rb_subscriber.specs.Lost.{FitsLost};
 ghost use Rattle.rb_subscriber.specs.Register.{all_steps};
 ghost use Rattle.rb_subscriber.specs.Subscription.{cursor_of};
-ghost use Rattle.rb_broker.specs.Holding.{IsAtEnd, ShowsDrained, MakesSubscription, counted_step, desk_answer};
+ghost use Rattle.rb_broker.specs.Holding.{IsAtEnd, ShowsDrained, MakesSubscription, counted_step};
+ghost use Rattle.rb_broker.specs.Holding.{desk_answer};
 ghost use Rattle.rb_broker.specs.Holding.{desk_error, ended_step, relinked_step};
 ghost use Rattle.rb_broker.specs.Resuming.{ResumesAsDesk};
 

@@ -1,6 +1,7 @@
-//! The broker that threads share: publishers send into its intake, a sequencer places what it pulls,
-//! and subscriptions take and acknowledge through its lock. Theorem: whenever the lock is free the
-//! desk is the replay of its journal, and the steps that owners count are those in the journal.
+//! The broker that threads share: publishers send into its intake, a sequencer places what it
+//! pulls, and subscriptions take and acknowledge through its lock. Theorem: whenever the lock is
+//! free the desk is the replay of its journal, and the steps that owners count are those in the
+//! journal.
 #![tactic(auto)]
 
 mod broker;

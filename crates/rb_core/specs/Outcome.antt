@@ -22,7 +22,8 @@ use Rattle.rb_core.specs.declared.reply.Reply.TheVariants as reply
 use Rattle.rb_core.specs.declared.reply.BrokerRefusal.TheVariants as refusal
 use Rattle.rb_core.specs.State.{State, empty_tables}
 pub use Rattle.rb_core.specs.Publishing.{refused, with_publisher, with_endpoint, entry_of}
-pub use Rattle.rb_core.specs.Publishing.{delivery_of, publisher_added, fed_reply, fed_stream, fed_by}
+pub use Rattle.rb_core.specs.Publishing.{delivery_of, publisher_added, fed_reply, fed_stream}
+pub use Rattle.rb_core.specs.Publishing.{fed_by}
 pub use Rattle.rb_core.specs.Publishing.{fed, reset_by, reset, fault_refusal, end_reply, staged_by}
 pub use Rattle.rb_core.specs.Publishing.{ended_by, ended_for, ended, sent_item, sent_while, sent_by}
 pub use Rattle.rb_core.specs.Publishing.{sent_for, sent, withdrawn_entry, withdrawn_from}

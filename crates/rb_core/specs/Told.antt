@@ -166,8 +166,8 @@ with_accepted entries q =
 abbrev pub delivery_told : ℕ → Subscriber → Option Delivery
 delivery_told d q = find (λ delivery. delivery.number == d) q.deliveries
 
--- It accepts the delivery of this number: the entries that the delivery brings go to the end of what
--- it accepted, and the group of their bodies is applied to its tables.
+-- It accepts the delivery of this number: the entries that the delivery brings go to the end of
+-- what it accepted, and the group of their bodies is applied to its tables.
 abbrev pub accepted_told : List Entry → Option Delivery → Subscriber → Subscriber
 accepted_told sequence None q = q
 accepted_told sequence (Some delivery) q = with_accepted (brought sequence delivery) q

@@ -34,7 +34,8 @@ impl World {
 
 // the entries numbered `first` to `last`, if 1 <= `first` <= `last` and `last` is placed
 fn span(sequence: &[Entry], first: u64, last: u64) -> Option<&[Entry]>
-    ensures span { option_map (λ entries. entries.now) result ≡ placed_span sequence.now first last }
+    ensures span { option_map (λ entries. entries.now) result
+        ≡ placed_span sequence.now first last }
     ensures admitted { (schema : List Shape) → AllByRecursion (IsAdmitted schema) sequence.now
         → IfSome result (λ entries. AllByRecursion (IsAdmitted schema) entries.now) }
 {

@@ -9,10 +9,10 @@ use Rattle.rb_subscriber.specs.Accept.{HasSingleTables}
 use Rattle.rb_subscriber.specs.Shown.{ShowDelivery, entries_told}
 use Rattle.rb_subscriber.specs.Subscription.{SubscriptionState}
 
--- The trees have the rows and the cursor of one run of a subscription: what it had accepted, and the
--- entries of this delivery, or nothing more. They are the entries after its start, one after another, as
--- the cells show them. Where their changesets apply one after another without conflict to the tables
--- that it began with, the rows are what that gives.
+-- The trees have the rows and the cursor of one run of a subscription: what it had accepted, and
+-- the entries of this delivery, or nothing more. They are the entries after its start, one after
+-- another, as the cells show them. Where their changesets apply one after another without conflict
+-- to the tables that it began with, the rows are what that gives.
 pub record HoldsRun (cells : Cells) (s : SubscriptionState) (delivery : Delivery) (db : Trees)
     : Type 0 where
   pub run : List CellToken

@@ -190,7 +190,8 @@ fn publishers<L: Hall>(
     lines: Vec<Vec<Given>>,
 ) -> Result<Vec<Publishing<L>>, AllocError>
     requires { maker.old ≡ 0 }
-    ensures { IfOk result (λ all. map (λ one. publisher_lines one.publisher one.lines.items) all.items
+    ensures { IfOk result (λ all.
+        map (λ one. publisher_lines one.publisher one.lines.items) all.items
         ≡ numbered_lines 0 (arc_value broker.now.schema) (map (λ v. v.items) lines.items)) }
 {
     let mut all = Vec::new(alloc);

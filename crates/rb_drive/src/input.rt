@@ -4,7 +4,8 @@ ghost use Rattle.std.specs.Prelude.{◌≡◌, ◌+◌, ◌<◌, ◌≤◌, ◌�
 ghost use Rattle.std.specs.Prelude.{IfOk, OnErr, IfErr, Some};
 ghost use Rattle.std.specs.Io.KnownBytes.{Consumes, Keeps, IsAtEnd};
 ghost use Rattle.rb_drive.specs.Input.{InputEnds};
-ghost use Rattle.rb_drive.specs.Reading.{AddEnds, EndsAfter, ReadingGoesOn, IsReadUpTo, with_entry, with_line};
+ghost use Rattle.rb_drive.specs.Reading.{AddEnds, EndsAfter, ReadingGoesOn, IsReadUpTo, with_entry};
+ghost use Rattle.rb_drive.specs.Reading.{with_line};
 ghost use Rattle.rb_drive.specs.Reading.{IsReadFault};
 ghost use Rattle.rb_drive.specs.declared.entries.LineEntry.TheVariants.{Table, Changeset};
 

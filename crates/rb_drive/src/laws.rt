@@ -20,8 +20,8 @@ use std::alloc::Global;
 use std::thread::Threads;
 
 /// Accepts a delivery into a replica, loses the machine, and opens the replica again. Whatever the
-/// accept returned, the file has the rows and the cursor of one run of the subscription: what it had
-/// accepted, or that and this delivery.
+/// accept returned, the file has the rows and the cursor of one run of the subscription: what it
+/// had accepted, or that and this delivery.
 pub fn accept_and_crash<L: StepLedger, R: Threads + Sync, G: Gate, S: Alter + Reopen + Drop>(
     workers: &Workers<R, G>,
     alloc: Global,

@@ -1,6 +1,7 @@
 //! A publisher's thread: feeds the changesets of its lines, and sends those that are right.
 
-ghost use Rattle.std.specs.Prelude.{◌≡◌, ◌++◌, ◌∷◌, [], ◌<◌, ◌≤◌, suc, length, take, vec_len, IsTrue};
+ghost use Rattle.std.specs.Prelude.{◌≡◌, ◌++◌, ◌∷◌, [], ◌<◌, ◌≤◌, suc, length, take, vec_len};
+ghost use Rattle.std.specs.Prelude.{IsTrue};
 ghost use Rattle.std.specs.Prelude.{IsFalse, IfErr, IfOk, OnOk};
 ghost use Rattle.cs_model.specs.Bytes.{AreBytes};
 ghost use Rattle.cs_parse.specs.Progress.{nothing, progress_of};
@@ -49,7 +50,8 @@ impl<L: Hall> Publishing<L> {
     /// A publisher that has sent nothing.
     pub fn new(alloc: Global, publisher: Publisher<L>, lines: Vec<Given>) -> Publishing<L>
         requires { publisher.sent ≡ [] }
-        ensures { publisher_lines result.publisher result.lines.items ≡ publisher_lines publisher lines.items }
+        ensures { publisher_lines result.publisher result.lines.items
+            ≡ publisher_lines publisher lines.items }
     {
         Publishing {
             publisher,

@@ -50,7 +50,7 @@ with_all_declared tables [] = tables
 with_all_declared tables (shape ∷ shapes) =
     with_all_declared (with_declared tables shape (table_refusal tables shape)) shapes
 
--- The schema of a script with these lines: the shapes that its `table` lines spell, before its first
--- line of another form, without those that are refused.
+-- The schema of a script with these lines: the shapes that its `table` lines spell, before its
+-- first line of another form, without those that are refused.
 abbrev pub schema_of_script : List (List ℕ) → List Shape
 schema_of_script lines = with_all_declared [] (shapes_in (opening_lines lines))

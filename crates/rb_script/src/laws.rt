@@ -99,8 +99,8 @@ pub fn lines_are_found()
 {}
 
 /// The headline of a script, however it is answered. What is written is the answers to the lines
-/// that are reached, and these keep the headline: under the schema that the `table` lines among them
-/// declare, and of the world after the last of them.
+/// that are reached, and these keep the headline: under the schema that the `table` lines among
+/// them declare, and of the world after the last of them.
 pub fn answerings_keep_the_headline()
     ensures { (how : Answering) (config : Limits) (lines : List (List ℕ)) (last : List ℕ)
         → AreInRange config → AllByRecursion IsLine lines → IsLine last

@@ -37,8 +37,8 @@ TakesUp None old new = (x : Item)
     × (new ≡ record old { pulled = old.pulled ++ x ∷ []; hand = Some x })
 
 -- What a turn does. The item in hand, which it may have taken up, becomes an entry, whose number is
--- one more than that of the entry before; or nothing waits; or the item stays in hand. Then the desk
--- refuses so, and where the sequence is closed, the refusal shows its last number.
+-- one more than that of the entry before; or nothing waits; or the item stays in hand. Then the
+-- desk refuses so, and where the sequence is closed, the refusal shows its last number.
 abbrev pub IsTurn : Cells → SequencerState → SequencerState → Turn → Type 0
 IsTurn cells old new (Placed told) = (mid : SequencerState) × TakesUp old.hand old mid
     × (mid.hand ≡ Some told.entry.item) × IsTokenOf cells told

@@ -18,8 +18,8 @@ use Rattle.rb_subscriber.specs.declared.refusal.AcceptRefusal.TheVariants as ref
 
 -- What it returns for a delivery that isn't refused before its entries are asked. `Ok`, a refusal
 -- and out of memory are what `accept_brought` says of the entries that the cells show. What was
--- accepted is kept, by its tokens; an error changes nothing. `Unseen` is the delivery's first number
--- whose cell shows nothing: the cells show the entries before it.
+-- accepted is kept, by its tokens; an error changes nothing. `Unseen` is the delivery's first
+-- number whose cell shows nothing: the cells show the entries before it.
 abbrev pub DueAnswers : Cells → Delivery → Result ℕ SubscriptionError → SubscriptionState
     → SubscriptionState → Type 0
 DueAnswers cells delivery (Ok cursor) old new =

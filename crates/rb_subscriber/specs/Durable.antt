@@ -47,8 +47,8 @@ KeepAnswers (Err (keep.Refused why)) accepted old new = (accepted ≡ Err why) �
 KeepAnswers (Err keep.Memory) accepted old new = AsksTables accepted × (new ≡ old)
 KeepAnswers (Err (keep.Store plan)) accepted old new = FallsWith plan accepted old new
 
--- The group of the bodies of these entries applies to the tables without conflict, and these are the
--- changes of rows that it makes, each of another key.
+-- The group of the bodies of these entries applies to the tables without conflict, and these are
+-- the changes of rows that it makes, each of another key.
 pub record PlansGroup (tables : TableState) (entries : List Entry) (changes : RowChanges)
     : Type 0 where
   pub applied : single tables (group_of (joined_bodies entries)) ≡ Ok (changed_tables tables changes)

@@ -11,8 +11,8 @@ use Rattle.par_apply.specs.RowChanges.{RowChanges}
 use Rattle.rb_sequence.specs.Cells.{CellToken, token_code}
 use Rattle.rb_subscriber.specs.Endpoint.{Endpoint}
 
--- What a durable store may have beyond a subscription that fell: the entries of the delivery that it
--- was accepting, by their tokens, and the changes of rows that they make.
+-- What a durable store may have beyond a subscription that fell: the entries of the delivery that
+-- it was accepting, by their tokens, and the changes of rows that they make.
 pub record PendingAccept : Type 0 where
   pub tokens : List CellToken
   pub changes : RowChanges

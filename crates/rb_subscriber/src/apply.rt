@@ -41,8 +41,8 @@ pub(crate) fn outside<'a, E: Brought>(schema: &Schema, entries: &'a E) -> Option
     None
 }
 
-/// The changesets of entries as one, their group ("The Session Extension", changegroups). The schema
-/// admits them all, so no two sections clash. Returns `AllocError` if memory runs out.
+/// The changesets of entries as one, their group ("The Session Extension", changegroups). The
+/// schema admits them all, so no two sections clash. Returns `AllocError` if memory runs out.
 pub fn combined<E: Brought>(
     alloc: Global,
     schema: &Schema,
@@ -111,7 +111,8 @@ fn apply_group<E: Brought, F: Fn(&mut Tables, &Changeset) -> Result<(), ApplyErr
     ensures ok { OnOk result (single tables.old (group_of (joined_bodies (E.entries entries.now)))
         ≡ Ok tables.new) }
     ensures refused { IfErr result
-        (λ e. ReportsConflict e (single tables.old (group_of (joined_bodies (E.entries entries.now))))) }
+        (λ e. ReportsConflict e
+        (single tables.old (group_of (joined_bodies (E.entries entries.now))))) }
     ensures err { OnErr result (tables.new ≡ tables.old) }
 {
     let Ok(changeset) = combined(alloc, tables.schema(), entries) else {
@@ -144,7 +145,8 @@ pub(crate) fn apply<E: Brought, F: Fn(&mut Tables, &Changeset) -> Result<(), App
     ensures ok { OnOk result (single tables.old (group_of (joined_bodies (E.entries entries.now)))
         ≡ Ok tables.new) }
     ensures refused { IfErr result
-        (λ e. ReportsConflict e (single tables.old (group_of (joined_bodies (E.entries entries.now))))) }
+        (λ e. ReportsConflict e
+        (single tables.old (group_of (joined_bodies (E.entries entries.now))))) }
     ensures err { OnErr result (tables.new ≡ tables.old) }
 {
     let Some(entry) = only(entries) else {

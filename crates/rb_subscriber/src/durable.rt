@@ -22,13 +22,13 @@ use std::thread::Threads;
 
 impl<L: StepLedger> Subscription<L> {
     /// Accepts a delivery as `accept` does, and commits it to a durable store, which has this
-    /// subscription's rows and cursor: first to the store, then to its tables. A crash leaves in the
-    /// store the rows and the cursor from before the delivery, or those after it; after `Ok`, those
-    /// after it.
+    /// subscription's rows and cursor: first to the store, then to its tables. A crash leaves in
+    /// the store the rows and the cursor from before the delivery, or those after it; after `Ok`,
+    /// those after it.
     ///
     /// Refuses as `accept` does, and last of all `Store` if the store fails. The subscription has
-    /// fallen then: it answers `Store` to every delivery. Give it up by `fall`, open the store again,
-    /// and hand what it has to the broker's `resume`. Any other error changes neither the
+    /// fallen then: it answers `Store` to every delivery. Give it up by `fall`, open the store
+    /// again, and hand what it has to the broker's `resume`. Any other error changes neither the
     /// subscription nor the store.
     pub fn accept_durable<R: Threads + Sync, G: Gate, S: DurableRows>(
         &mut self,

@@ -75,8 +75,9 @@ impl Endpoint {
     /// leaves the same tables.
     ///
     /// Refuses, in this order, `Store`, `Closed`, `StaleLink`, `Seen`, `Gap`, `Shape`, `Conflict`.
-    /// `Memory` may replace a conflict, but no other refusal. An error does not change the endpoint.
-    /// A conflict comes only if the changesets conflict too when they are applied one after another.
+    /// `Memory` may replace a conflict, but no other refusal. An error does not change the
+    /// endpoint. A conflict comes only if the changesets conflict too when they are applied one
+    /// after another.
     #[tactic(auto, unfolding(crate::specs::Accept::accept_brought))]
     pub fn accept(
         &mut self,

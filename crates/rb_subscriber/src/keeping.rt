@@ -47,9 +47,9 @@ pub(crate) enum KeepError {
 }
 
 impl Endpoint {
-    /// Accepts a delivery that brings these entries, as `accept` does, and commits it to a store with
-    /// this endpoint's rows and cursor: to the store first, then to its tables. If the store fails,
-    /// the endpoint falls.
+    /// Accepts a delivery that brings these entries, as `accept` does, and commits it to a store
+    /// with this endpoint's rows and cursor: to the store first, then to its tables. If the store
+    /// fails, the endpoint falls.
     pub(crate) fn accept_kept<E: Brought, R: Threads + Sync, G: Gate, S: DurableRows>(
         &mut self,
         workers: &Workers<R, G>,
@@ -166,8 +166,8 @@ impl Endpoint {
     }
 }
 
-/// The plan of the group of the bodies of entries, or its first conflict. A single body is planned as
-/// it is, and grouped only if it conflicts: its group makes the same changes.
+/// The plan of the group of the bodies of entries, or its first conflict. A single body is planned
+/// as it is, and grouped only if it conflicts: its group makes the same changes.
 fn plan<E: Brought, R: Threads + Sync, G: Gate>(
     workers: &Workers<R, G>,
     alloc: Global,

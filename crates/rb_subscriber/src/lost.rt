@@ -74,8 +74,8 @@ impl<L: StepLedger> Lost<L> {
     }
 
     /// Whether it can be resumed with these tables and this cursor: whether they are those from
-    /// before the delivery, or those after it. For the second it makes a copy of its own tables, and
-    /// returns `AllocError` if memory runs out.
+    /// before the delivery, or those after it. For the second it makes a copy of its own tables,
+    /// and returns `AllocError` if memory runs out.
     pub fn fits(&self, alloc: Global, tables: &Tables, cursor: u64) -> Result<bool, AllocError>
         ensures { IfOk result (λ fits. Decides fits (FitsLost self.now tables.now cursor)) }
     {

@@ -46,8 +46,8 @@ pub enum AcceptError {
     Memory,
 }
 
-/// What stops `Subscription::accept`, `accept_alone` and `accept_durable`. The stopped call does not
-/// change the subscription, but for one case: where its store fails, `accept_durable` returns
+/// What stops `Subscription::accept`, `accept_alone` and `accept_durable`. The stopped call does
+/// not change the subscription, but for one case: where its store fails, `accept_durable` returns
 /// `Store`, and the subscription has fallen.
 #[derive(Clone, Copy, Debug, PartialEq, Eq, Error)]
 pub enum SubscriptionError {

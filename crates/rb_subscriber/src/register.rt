@@ -146,8 +146,8 @@ impl<L: StepLedger> Register<L> {
         subscription.end.reconnect(link);
     }
 
-    /// Makes one that fell a subscription again, with these tables, after this cursor and under this
-    /// link. It counts no step.
+    /// Makes one that fell a subscription again, with these tables, after this cursor and under
+    /// this link. It counts no step.
     pub fn resume(&self, lost: Lost<L>, tables: Tables, cursor: u64, link: u64) -> Subscription<L>
         requires { FitsLost lost tables cursor }
         ensures { result ≡ gone_on lost tables cursor link }

@@ -35,8 +35,8 @@ impl<'a> Brought for Shown<'a> {
     }
 }
 
-/// The tokens of a delivery's entries, and room for them behind those that are kept. Or why there are
-/// none: `Unseen`, and out of memory, which hides no `Unseen` and no `Shape`.
+/// The tokens of a delivery's entries, and room for them behind those that are kept. Or why there
+/// are none: `Unseen`, and out of memory, which hides no `Unseen` and no `Shape`.
 pub(crate) fn tokens_of(
     alloc: Global,
     sequence: &Sequence,

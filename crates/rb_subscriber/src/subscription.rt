@@ -83,15 +83,15 @@ impl<L: StepLedger> Model for Subscription<L> {
 impl<L: StepLedger> Subscription<L> {
     /// Accepts a delivery: reads its entries from the cells, applies the group of their changesets
     /// by these workers, keeps their tokens, and moves the cursor to the delivery's last number,
-    /// which it returns. `sequence` is that of its broker. If the changesets apply one after another
-    /// without conflict, their group leaves the same tables. What it returns and leaves doesn't
-    /// depend on how many workers there are, unless memory runs out.
+    /// which it returns. `sequence` is that of its broker. If the changesets apply one after
+    /// another without conflict, their group leaves the same tables. What it returns and leaves
+    /// doesn't depend on how many workers there are, unless memory runs out.
     ///
     /// Refuses, in this order, `Store`, `Closed`, `StaleLink`, `Seen`, `Gap`, `Unseen`, `Shape`,
     /// `Conflict`. `Memory` may replace a conflict, but no other refusal. An error does not change
-    /// the subscription. A conflict comes only if the changesets conflict too when they are applied one
-    /// after another. `Unseen` comes only if the cell of its number showed nothing: the entry isn't
-    /// placed yet, or its placement isn't seen by this thread yet.
+    /// the subscription. A conflict comes only if the changesets conflict too when they are applied
+    /// one after another. `Unseen` comes only if the cell of its number showed nothing: the entry
+    /// isn't placed yet, or its placement isn't seen by this thread yet.
     pub fn accept<R: Threads + Sync, G: Gate>(
         &mut self,
         workers: &Workers<R, G>,

@@ -27,7 +27,8 @@ impl Scenario for NextSegment {
     }
 }
 
-// Empty changesets fill the first segment and the one cell of the second. Then the sequence is full.
+// Empty changesets fill the first segment and the one cell of the second. Then the sequence is
+// full.
 fn fills_both<L: Hall, R: Wait + Abort>(
     rt: &R,
     alloc: Global,

@@ -21,9 +21,9 @@ grow_at-requires-clause-room c =
     (fewer _ bytes _ _ refl long c.requires.count))
 
 -- the sections have the changes and the other sections at their end
-grown : (c : After-grow_at) → TextGrows c.grow_at.new.ats.items c.append_both.new.text.items
+joined_at_end : (c : After-grow_at) → TextGrows c.grow_at.new.ats.items c.append_both.new.text.items
     (with_changes c.args.self.now (unpacked_changes c.args.columns c.args.text.now) ++ c.args.others)
-grown c =
+joined_at_end c =
     let added = c.in_ok-text_push.ensures.ok in
     let long = added_len c.self.inside.text.items c.text_push.new.out.items _ c.len-start.result c.len.result added
     (grind (arith, common_steps)) (grind (arith, common_steps)) in
@@ -37,7 +37,7 @@ grown c =
     (c.grow_at.ensures ∙ index.1)
 
 pub invariant_of-self-2 : goal.invariant_of-self-2
-invariant_of-self-2 c = (grown (goal.at.invariant_of-self-2 c).After-grow_at).stands
+invariant_of-self-2 c = (joined_at_end (goal.at.invariant_of-self-2 c).After-grow_at).stands
 
 pub returns-clause-ok : goal.returns-clause-ok
-returns-clause-ok c = (grown (goal.at.returns-clause-ok c).After-grow_at).says
+returns-clause-ok c = (joined_at_end (goal.at.returns-clause-ok c).After-grow_at).says

@@ -8,9 +8,9 @@ use Rattle.cs_model.proofs.sections.Sections.push_ref.Goals as goal
 use Rattle.cs_model.proofs.sections.Sections.push_ref.Goals.{After-grow_last}
 
 -- the sections have the change at their end
-grown : (c : After-grow_last) → TextGrows c.grow_last.new.ats.items c.ref_push.new.out.items
+ref_at_end : (c : After-grow_last) → TextGrows c.grow_last.new.ats.items c.ref_push.new.out.items
     (with_changes c.args.self.now (change_seen c.args.change.now ∷ []))
-grown c =
+ref_at_end c =
     let p = c.in_ok-ref_push.ensures in
     let long = added_len c.self.inside.text.items c.ref_push.new.out.items _ c.len-start.result c.len.result p.ok
     (grind (arith, common_steps)) (grind (arith, common_steps)) in
@@ -26,7 +26,7 @@ grow_last-requires c =
     (bytes_of_one _ (change_seen c.args.change.now) _ refl long)
 
 pub invariant_of-self-2 : goal.invariant_of-self-2
-invariant_of-self-2 c = (grown (goal.at.invariant_of-self-2 c).After-grow_last).stands
+invariant_of-self-2 c = (ref_at_end (goal.at.invariant_of-self-2 c).After-grow_last).stands
 
 pub returns-clause-ok : goal.returns-clause-ok
-returns-clause-ok c = (grown (goal.at.returns-clause-ok c).After-grow_last).says
+returns-clause-ok c = (ref_at_end (goal.at.returns-clause-ok c).After-grow_last).says

@@ -7,9 +7,9 @@ use Rattle.cs_model.proofs.sections.Sections.push_text.Goals as goal
 use Rattle.cs_model.proofs.sections.Sections.push_text.Goals.{After-grow_last}
 
 -- the sections have the changes at their end
-grown : (c : After-grow_last) → TextGrows c.grow_last.new.ats.items c.text_push.new.out.items
+text_at_end : (c : After-grow_last) → TextGrows c.grow_last.new.ats.items c.text_push.new.out.items
     (with_changes c.args.self.now (unpacked_changes c.args.columns c.args.text.now))
-grown c =
+text_at_end c =
     let added = c.in_ok-text_push.ensures.ok in
     let long = added_len c.self.inside.text.items c.text_push.new.out.items _ c.len-start.result c.len.result added
     (grind (arith, common_steps)) (grind (arith, common_steps)) in
@@ -24,7 +24,7 @@ grow_last-requires c =
     can_push _ _ _ _ _ _ c.self.invariant added (omega arith) long (fewer _ _ _ _ refl long c.requires.count)
 
 pub invariant_of-self-2 : goal.invariant_of-self-2
-invariant_of-self-2 c = (grown (goal.at.invariant_of-self-2 c).After-grow_last).stands
+invariant_of-self-2 c = (text_at_end (goal.at.invariant_of-self-2 c).After-grow_last).stands
 
 pub returns-clause-ok : goal.returns-clause-ok
-returns-clause-ok c = (grown (goal.at.returns-clause-ok c).After-grow_last).says
+returns-clause-ok c = (text_at_end (goal.at.returns-clause-ok c).After-grow_last).says
