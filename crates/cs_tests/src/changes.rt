@@ -82,7 +82,7 @@ fn ordered(rt: &impl Abort, alloc: Global) -> Result<(), Fail> {
     Ok(())
 }
 
-// the key of the first change of a text of one section, and a copy of its old record
+// the key of the first change of a text of one section
 fn has_key(
     rt: &impl Abort,
     alloc: Global,
@@ -95,8 +95,6 @@ fn has_key(
     let change = section.changes().next().ok_or("no change")?;
     let key = RowKey::of(alloc, 3, &section.shape(), &change)?;
     same(rt, &key.bytes, want);
-    let before = Record::copy_of(alloc, &change.before)?;
-    same(rt, before.bytes(), change.before.bytes());
     Ok(())
 }
 

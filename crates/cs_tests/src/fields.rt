@@ -52,16 +52,6 @@ fn pushes(
     Ok(())
 }
 
-fn record(rt: &impl Abort, alloc: Global, fields: &[FieldRef], bytes: &[u8]) -> Result<(), Fail> {
-    let mut record = Record::new(alloc);
-    for field in fields {
-        record.push(*field)?;
-    }
-    gives(rt, record.fields(), fields);
-    same(rt, record.copy_in(alloc)?.bytes(), bytes);
-    Ok(())
-}
-
 fn row(rt: &impl Abort, alloc: Global, fields: &[FieldRef], bytes: &[u8]) -> Result<(), Fail> {
     let mut row = Row::with_capacity(alloc, 4)?;
     for field in fields {
@@ -127,7 +117,6 @@ fn records(rt: &impl Abort, alloc: Global) -> Result<(), Fail> {
         Null,
     ];
     let bytes = b"\0\x01\xff\xff\xff\xff\xff\xff\xff\xfe\x03\x01x\0\x04\0\x05";
-    record(rt, alloc, &all, bytes)?;
     let values = b"\x01\xff\xff\xff\xff\xff\xff\xff\xfe\x03\x01x\x04\0\x05";
     row(rt, alloc, &all, values)
 }

@@ -18,7 +18,7 @@ abbrev pub tables_seen : TableList → ShownTables
 tables_seen tables = tables_at tables.schema tables.headers.items
 
 abbrev pub named_row : NamedRow → List ℕ × List Value
-named_row row = (row.name, values_of row.values)
+named_row row = (row.name.now, values_of row.values)
 
 -- what is appended for a field: nothing for one without a value, and a comma after others
 abbrev pub field_shown : Field → List ℕ

@@ -10,12 +10,16 @@ ghost use Rattle.rb_show.specs.Shown.{blob_literal, is_printable, literals, name
 ghost use Rattle.rb_show.specs.Shown.{quote_doubled, sql_line, text_literal};
 ghost use Rattle.rb_show.specs.ShownTexts.{field_literal, field_shown};
 
-use cs_model::{FieldRef, Record};
+use cs_model::{FieldRef, RecordRef};
 use std::alloc::{AllocError, Global};
 
 /// The line of a row: the table's name, and the values as SQL literals. Returns `AllocError` if
 /// memory runs out.
-pub fn line_of_literals(alloc: Global, name: &[u8], values: &Record) -> Result<Vec<u8>, AllocError>
+pub fn line_of_literals(
+    alloc: Global,
+    name: &[u8],
+    values: &RecordRef,
+) -> Result<Vec<u8>, AllocError>
     ensures { IfOk result (λ line. line.items ≡ sql_line name.now (values_of values.now)) }
 {
     let mut line = Vec::new(alloc);
@@ -37,7 +41,7 @@ fn add_name(alloc: Global, text: &mut Vec<u8>, name: &[u8]) -> Result<(), AllocE
 }
 
 // Appends the values, with commas between them.
-fn add_literals(alloc: Global, text: &mut Vec<u8>, values: &Record) -> Result<(), AllocError>
+fn add_literals(alloc: Global, text: &mut Vec<u8>, values: &RecordRef) -> Result<(), AllocError>
     ensures { OnOk result (text.new.items ≡ text.old.items ++ literals (values_of values.now)) }
 {
     let mut later = false;

@@ -9,13 +9,13 @@ ghost use Rattle.rb_show.specs.Shown.{hex_data, json_line, row_data, text_data, 
 ghost use Rattle.rb_show.specs.ShownTexts.{field_data, field_items};
 
 use crate::literals::utf8;
-use cs_model::{FieldRef, Record};
+use cs_model::{FieldRef, RecordRef};
 use serde_json::{Value, json};
 use std::alloc::{AllocError, Global};
 
 /// The line of a row: a JSON object with the values and the table's name. Returns `AllocError` if
 /// memory runs out.
-pub fn line_of_object(alloc: Global, name: &[u8], values: &Record) -> Result<Vec<u8>, AllocError>
+pub fn line_of_object(alloc: Global, name: &[u8], values: &RecordRef) -> Result<Vec<u8>, AllocError>
     ensures { IfOk result (λ line. line.items ≡ json_line name.now (values_of values.now)) }
 {
     let object = object_of(alloc, name, values)?;
@@ -24,7 +24,7 @@ pub fn line_of_object(alloc: Global, name: &[u8], values: &Record) -> Result<Vec
     Ok(line)
 }
 
-fn object_of(alloc: Global, name: &[u8], values: &Record) -> Result<Value, AllocError>
+fn object_of(alloc: Global, name: &[u8], values: &RecordRef) -> Result<Value, AllocError>
     ensures { IfOk result (λ object. view object ≡ row_data name.now (values_of values.now)) }
 {
     let row = array_of(alloc, values)?;
@@ -32,7 +32,7 @@ fn object_of(alloc: Global, name: &[u8], values: &Record) -> Result<Value, Alloc
     json!(in alloc; {"row": row, "table": table})
 }
 
-fn array_of(alloc: Global, values: &Record) -> Result<Value, AllocError>
+fn array_of(alloc: Global, values: &RecordRef) -> Result<Value, AllocError>
     ensures { IfOk result (λ row. view row
         ≡ array (items_of (map value_data (values_of values.now)))) }
 {

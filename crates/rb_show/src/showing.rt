@@ -12,7 +12,7 @@ use crate::literals::line_of_literals;
 use crate::objects::line_of_object;
 use crate::row_form::RowForm;
 use crate::show_fault::ShowFault;
-use crate::tables::{NamedRow, TableList};
+use crate::tables::{NamedRow, TableList, row_alone_in};
 use rb_script::{flush, is, parts, write_whole};
 use std::alloc::{AllocError, Global};
 use std::io::{ErrorKind, Read, Write};
@@ -132,7 +132,10 @@ fn show_line<W: Write>(
         return Ok(());
     };
     if is(name, b"row") {
-        return match tables.row(alloc, rest)? {
+        let Some(changeset) = tables.row(alloc, rest)? else {
+            return Err(ShowFault::Row(number));
+        };
+        return match row_alone_in(&changeset) {
             None => Err(ShowFault::Row(number)),
             Some(row) => show_row(alloc, form, &row, writer),
         };
@@ -163,8 +166,8 @@ fn line_of_row(alloc: Global, form: RowForm, row: &NamedRow) -> Result<Vec<u8>, 
     ensures { IfOk result (λ line. line.items ≡ row_line form (named_row row.now)) }
 {
     match form {
-        RowForm::Sql => line_of_literals(alloc, &row.name, &row.values),
-        RowForm::Json => line_of_object(alloc, &row.name, &row.values),
+        RowForm::Sql => line_of_literals(alloc, row.name, &row.values),
+        RowForm::Json => line_of_object(alloc, row.name, &row.values),
     }
 }
 

@@ -1,6 +1,7 @@
 //! The tables of `table` lines, and the rows of `row` lines.
 
 ghost use Rattle.std.specs.Prelude.{◌≡◌, ◌++◌, ◌∷◌, [], map, option_map, IfOk, OnOk};
+ghost use Rattle.std.specs.Option.{option_and_then};
 ghost use Rattle.cs_parse.specs.Reading.{answer_of};
 ghost use Rattle.rb_script.specs.Lines.{header_of_answer};
 ghost use Rattle.rb_show.specs.Shown.{bytes_of_words, bytes_with_front, only_row, row_among};
@@ -8,7 +9,7 @@ ghost use Rattle.rb_show.specs.Shown.{row_after_header, row_of_words, table_show
 ghost use Rattle.rb_show.specs.Shown.{tables_shown};
 ghost use Rattle.rb_show.specs.ShownTexts.{named_row, tables_seen};
 
-use cs_model::{Changeset, Octets, Record, Schema, SchemaError, Seq};
+use cs_model::{Changeset, Octets, RecordRef, Schema, SchemaError, Seq};
 use cs_parse::{ParseError, parse};
 use rb_script::{header_in, number, octets};
 use std::alloc::{AllocError, Global};
@@ -20,11 +21,11 @@ pub struct TableList {
     pub headers: Vec<Octets>,
 }
 
-/// A row: its table's name, and its values.
-#[derive(Debug, Drop)]
-pub struct NamedRow {
-    pub name: Octets,
-    pub values: Record,
+/// A row: its table's name, and its values, where they stand in a changeset.
+#[derive(Drop)]
+pub struct NamedRow<'a> {
+    pub name: &'a [u8],
+    pub values: RecordRef<'a>,
 }
 
 impl TableList {
@@ -68,10 +69,10 @@ impl TableList {
         }
     }
 
-    /// The row that `row` with these words gives, if it gives one. Returns `AllocError` if memory
-    /// runs out.
-    pub fn row(&self, alloc: Global, words: &[&[u8]]) -> Result<Option<NamedRow>, AllocError>
-        ensures { IfOk result (λ row. option_map named_row row
+    /// The changeset of the row that `row` with these words gives, if they spell one. Returns
+    /// `AllocError` if memory runs out.
+    pub fn row(&self, alloc: Global, words: &[&[u8]]) -> Result<Option<Changeset>, AllocError>
+        ensures { IfOk result (λ made. option_and_then row_among made
             ≡ row_of_words (tables_seen self.now) (map (λ word. word.now) words.now)) }
     {
         let Some((word, hex)) = words.split_first() else {
@@ -88,14 +89,14 @@ impl TableList {
     }
 }
 
-// the row of the table with this header whose bytes these words spell
-fn row_of(alloc: Global, header: &[u8], hex: &[&[u8]]) -> Result<Option<NamedRow>, AllocError>
-    ensures { IfOk result (λ row. option_map named_row row
+// the changeset of the row of the table with this header whose bytes these words spell
+fn row_of(alloc: Global, header: &[u8], hex: &[&[u8]]) -> Result<Option<Changeset>, AllocError>
+    ensures { IfOk result (λ made. option_and_then row_among made
         ≡ row_after_header header.now (bytes_of_words (map (λ word. word.now) hex.now))) }
 {
     match insert_text(alloc, header, hex)? {
         None => Ok(None),
-        Some(text) => row_in_text(alloc, &text),
+        Some(text) => changeset_in(alloc, &text),
     }
 }
 
@@ -115,33 +116,29 @@ fn insert_text(alloc: Global, header: &[u8], hex: &[&[u8]]) -> Result<Option<Oct
     Ok(Some(Seq::from_vec(text)))
 }
 
-// the row, if the text encodes a changeset of one change
-fn row_in_text(alloc: Global, text: &[u8]) -> Result<Option<NamedRow>, AllocError>
-    ensures { IfOk result (λ row. option_map named_row row ≡ only_row (answer_of text.now)) }
+// the changeset that the text encodes, if it encodes one
+fn changeset_in(alloc: Global, text: &[u8]) -> Result<Option<Changeset>, AllocError>
+    ensures { IfOk result (λ made. option_and_then row_among made ≡ only_row (answer_of text.now)) }
 {
     match parse(alloc, text) {
-        Ok(changeset) => row_alone_in(alloc, &changeset),
+        Ok(changeset) => Ok(Some(changeset)),
         Err(ParseError::Fault(_)) => Ok(None),
         Err(ParseError::Memory) => Err(AllocError),
     }
 }
 
-// the new record of the only change, if there is one change
-fn row_alone_in(alloc: Global, changeset: &Changeset) -> Result<Option<NamedRow>, AllocError>
-    ensures { IfOk result (λ row. option_map named_row row ≡ row_among changeset.now) }
+/// The new record of the only change, if there is one change.
+pub fn row_alone_in(changeset: &Changeset) -> Option<NamedRow>
+    ensures { option_map named_row result ≡ row_among changeset.now }
 {
     let mut sections = changeset.iter();
-    let Some(section) = sections.next() else {
-        return Ok(None);
-    };
+    let section = sections.next()?;
     if sections.next().is_some() || section.len() != 1 {
-        return Ok(None);
+        return None;
     }
-    match section.changes().next() {
-        None => Ok(None),
-        Some(change) => Ok(Some(NamedRow {
-            name: Seq::from_slice(alloc, section.name())?,
-            values: Record::copy_of(alloc, &change.after)?,
-        })),
-    }
+    let change = section.changes().next()?;
+    Some(NamedRow {
+        name: section.name(),
+        values: change.after,
+    })
 }
