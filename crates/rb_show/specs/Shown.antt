@@ -132,13 +132,14 @@ abbrev pub row_among : List Section → Option (List ℕ × List Value)
 row_among [] = None
 row_among (section ∷ rest) = row_alone section.shape section.changes rest
 
-abbrev pub only_row : Result (List Section) ParseFault → Option (List ℕ × List Value)
-only_row (Ok sections) = row_among sections
-only_row (Err fault) = None
+-- the changeset that bytes spell, if they spell one
+abbrev pub spelled_by : Result (List Section) ParseFault → Option (List Section)
+spelled_by (Ok sections) = Some sections
+spelled_by (Err fault) = None
 
-abbrev pub row_after_header : List ℕ → Option (List ℕ) → Option (List ℕ × List Value)
-row_after_header header None = None
-row_after_header header (Some bytes) = only_row (answer_of (header ++ 18 ∷ 0 ∷ bytes))
+abbrev pub spelled_after : List ℕ → Option (List ℕ) → Option (List Section)
+spelled_after header None = None
+spelled_after header (Some bytes) = spelled_by (answer_of (header ++ 18 ∷ 0 ∷ bytes))
 
 -- the bytes that words spell, one after another; None if one of them spells none
 abbrev pub bytes_with_front : List ℕ → Option (List ℕ) → Option (List ℕ)
@@ -150,12 +151,16 @@ bytes_of_words [] = Some []
 bytes_of_words (word ∷ words) =
     option_and_then (λ bytes. bytes_with_front bytes (bytes_of_words words)) (bytes_of word)
 
--- the row of a `row` line with these words: the table's index, and the row's bytes
-abbrev pub row_of_words : ShownTables → List (List ℕ) → Option (List ℕ × List Value)
-row_of_words tables [] = None
-row_of_words tables (word ∷ words) =
-    option_and_then (λ header. row_after_header header (bytes_of_words words))
+-- what a `row` line with these words spells: the table's index, and the row's bytes
+abbrev pub spelled_in_words : ShownTables → List (List ℕ) → Option (List Section)
+spelled_in_words tables [] = None
+spelled_in_words tables (word ∷ words) =
+    option_and_then (λ header. spelled_after header (bytes_of_words words))
     (option_and_then (λ table. slice_get tables.headers table) (number_in_word word))
+
+-- its row
+abbrev pub row_of_words : ShownTables → List (List ℕ) → Option (List ℕ × List Value)
+row_of_words tables words = option_and_then row_among (spelled_in_words tables words)
 
 -- the line of a row
 abbrev pub row_line : RowForm → List ℕ × List Value → List ℕ

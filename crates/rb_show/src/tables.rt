@@ -1,11 +1,10 @@
 //! The tables of `table` lines, and the rows of `row` lines.
 
 ghost use Rattle.std.specs.Prelude.{◌≡◌, ◌++◌, ◌∷◌, [], map, option_map, IfOk, OnOk};
-ghost use Rattle.std.specs.Option.{option_and_then};
 ghost use Rattle.cs_parse.specs.Reading.{answer_of};
 ghost use Rattle.rb_script.specs.Lines.{header_of_answer};
-ghost use Rattle.rb_show.specs.Shown.{bytes_of_words, bytes_with_front, only_row, row_among};
-ghost use Rattle.rb_show.specs.Shown.{row_after_header, row_of_words, table_shown, tables_at};
+ghost use Rattle.rb_show.specs.Shown.{bytes_of_words, bytes_with_front, row_among, spelled_after};
+ghost use Rattle.rb_show.specs.Shown.{spelled_by, spelled_in_words, table_shown, tables_at};
 ghost use Rattle.rb_show.specs.Shown.{tables_shown};
 ghost use Rattle.rb_show.specs.ShownTexts.{named_row, tables_seen};
 
@@ -69,11 +68,11 @@ impl TableList {
         }
     }
 
-    /// The changeset of the row that `row` with these words gives, if they spell one. Returns
-    /// `AllocError` if memory runs out.
+    /// The changeset that `row` with these words spells, if they spell one. Returns `AllocError`
+    /// if memory runs out.
     pub fn row(&self, alloc: Global, words: &[&[u8]]) -> Result<Option<Changeset>, AllocError>
-        ensures { IfOk result (λ made. option_and_then row_among made
-            ≡ row_of_words (tables_seen self.now) (map (λ word. word.now) words.now)) }
+        ensures { IfOk result (λ made. made
+            ≡ spelled_in_words (tables_seen self.now) (map (λ word. word.now) words.now)) }
     {
         let Some((word, hex)) = words.split_first() else {
             return Ok(None);
@@ -89,10 +88,10 @@ impl TableList {
     }
 }
 
-// the changeset of the row of the table with this header whose bytes these words spell
+// the changeset of a row of the table with this header whose bytes these words spell
 fn row_of(alloc: Global, header: &[u8], hex: &[&[u8]]) -> Result<Option<Changeset>, AllocError>
-    ensures { IfOk result (λ made. option_and_then row_among made
-        ≡ row_after_header header.now (bytes_of_words (map (λ word. word.now) hex.now))) }
+    ensures { IfOk result (λ made. made
+        ≡ spelled_after header.now (bytes_of_words (map (λ word. word.now) hex.now))) }
 {
     match insert_text(alloc, header, hex)? {
         None => Ok(None),
@@ -118,7 +117,7 @@ fn insert_text(alloc: Global, header: &[u8], hex: &[&[u8]]) -> Result<Option<Oct
 
 // the changeset that the text encodes, if it encodes one
 fn changeset_in(alloc: Global, text: &[u8]) -> Result<Option<Changeset>, AllocError>
-    ensures { IfOk result (λ made. option_and_then row_among made ≡ only_row (answer_of text.now)) }
+    ensures { IfOk result (λ made. made ≡ spelled_by (answer_of text.now)) }
 {
     match parse(alloc, text) {
         Ok(changeset) => Ok(Some(changeset)),
