@@ -1,5 +1,4 @@
--- The inverse of a changeset is a changeset, and its inverse is the changeset.
-pub mod Long
-pub mod Ending
+-- The inverse of a changeset is a changeset of the same length, and its inverse is the changeset.
+pub mod AsLong
 pub mod Inverting
 pub mod Twice

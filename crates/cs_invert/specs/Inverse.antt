@@ -1,11 +1,12 @@
 -- The inverse of a changeset (*Inverse*), and a changeset's withdrawal (*Withdrawal*).
 use Rattle.std.specs.Prelude.{◌≡◌, ℕ, ◌==◌, Bool, true, false, ◌&&◌, if◌then◌else◌, List, [], ◌∷◌}
-use Rattle.std.specs.Prelude.{map}
+use Rattle.std.specs.Prelude.{◌++◌, map}
 use Rattle.std.specs.List.{list_any}
 use Rattle.cs_model.specs.declared.value.Field.{Field}
 use Rattle.cs_model.specs.declared.change.Op.{Op}
 use Rattle.cs_model.specs.declared.change.Op.TheVariants.{Insert, Update, Delete}
 use Rattle.cs_model.specs.declared.change.Change.{Change}
+use Rattle.cs_model.specs.Packed.{packed}
 use Rattle.cs_model.specs.PackedChanges.{change_of}
 use Rattle.cs_model.specs.Schema.{same_bytes}
 use Rattle.cs_model.specs.Section.{Section}
@@ -29,6 +30,11 @@ inverse_new (flag ∷ flags) [] after = []
 inverse_new (flag ∷ flags) (old ∷ before) [] = []
 inverse_new (flag ∷ flags) (old ∷ before) (new ∷ after) =
     (if flag == 0 then old else new) ∷ inverse_new flags before after
+
+-- the bytes of both
+abbrev pub exchanged_bytes : List ℕ → List Field → List Field → List ℕ
+exchanged_bytes flags before after = packed (inverse_old flags before after)
+    ++ packed (inverse_new flags before after)
 
 -- An INSERT becomes a DELETE of the same row, and a DELETE an INSERT of it. An UPDATE exchanges its
 -- old and new values.

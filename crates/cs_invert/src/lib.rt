@@ -5,6 +5,7 @@
 
 mod inverse;
 pub mod laws;
+mod laying;
 mod text;
 mod withdraw;
 

@@ -6,8 +6,9 @@ ghost use Rattle.cs_write.specs.Text.{text_of};
 ghost use Rattle.cs_invert.specs.Inverse.{inverse};
 
 use crate::inverse::inverted;
+use crate::laying::put_sections;
 use cs_model::TextChangeset;
-use cs_write::write_to;
+use cs_write::{is_form, write_to};
 use std::alloc::{AllocError, Global};
 
 /// Writes the canonical text of a changeset's inverse to the front of `out`, and returns its length
@@ -23,6 +24,14 @@ pub fn write_inverse(
     ensures written { OnOk result (out.new ≡ given (text_of (inverse changeset.now)) out.old) }
     ensures err { OnErr result (out.new ≡ out.old) }
 {
-    let inverse = inverted(alloc, changeset.iter())?;
-    write_to(alloc, &inverse, out)
+    let sections = changeset.iter();
+    if !is_form(alloc, sections.again())? {
+        let inverse = inverted(alloc, sections)?;
+        return write_to(alloc, &inverse, out);
+    }
+    let len = sections.text().len();
+    if out.len() >= len {
+        put_sections(sections, out);
+    }
+    Ok(len)
 }

@@ -1,57 +1,16 @@
 //! Appends the bytes of changes to a buffer.
 
-ghost use Rattle.std.specs.Prelude.{◌≡◌, ◌∷◌, ◌++◌, OnOk, OnErr, length, take};
+ghost use Rattle.std.specs.Prelude.{◌≡◌, OnOk, OnErr, length, take};
 ghost use Rattle.std.specs.List.{AllByRecursion};
 ghost use Rattle.cs_model.specs.Bytes.{AddsBytes};
-ghost use Rattle.cs_model.specs.Text.{op_byte};
 ghost use Rattle.cs_model.specs.Packed.{Fits};
-ghost use Rattle.cs_model.specs.PackedChanges.{change_bytes, change_of, mark};
-ghost use Rattle.cs_model.specs.Seen.{change_seen, fields_seen};
+ghost use Rattle.cs_model.specs.PackedChanges.{change_bytes, change_of};
+ghost use Rattle.cs_model.specs.Seen.{fields_seen};
 
 use crate::change::Op;
-use crate::change_ref::ChangeRef;
 use crate::field::add_fields;
 use crate::field_ref::FieldRef;
 use std::alloc::AllocError;
-
-// Appends the bytes of a change with these records to `out`. An `Err` may have appended some.
-fn add_change(
-    out: &mut Vec<u8>,
-    op: Op,
-    indirect: bool,
-    before: &[u8],
-    after: &[u8],
-) -> Result<(), AllocError>
-    ensures ok { AddsBytes result out.old out.new
-        (op_byte op ∷ mark indirect ∷ (before.now ++ after.now)) }
-    ensures adds { take (length out.old.items) out.new.items ≡ out.old.items }
-{
-    out.push(op.byte())?;
-    out.push(u8::from(indirect))?;
-    out.extend_from_slice(before)?;
-    out.extend_from_slice(after)
-}
-
-/// Appends a borrowed change's bytes to `out`. An `Err` does not change `out`.
-pub fn ref_push(out: &mut Vec<u8>, change: &ChangeRef) -> Result<(), AllocError>
-    ensures ok { AddsBytes result out.old out.new (change_bytes (change_seen change.now)) }
-    ensures err { OnErr result (out.new.items ≡ out.old.items) }
-    ensures before { AllByRecursion Fits change.now.before }
-    ensures after { AllByRecursion Fits change.now.after }
-{
-    let start = out.len();
-    let pushed = add_change(
-        out,
-        change.op,
-        change.indirect,
-        change.before.bytes(),
-        change.after.bytes(),
-    );
-    if pushed.is_err() {
-        out.truncate(start);
-    }
-    pushed
-}
 
 /// Appends the bytes of a change with these fields to `out`. An `Err` does not change `out`.
 pub fn fields_push(

@@ -7,7 +7,7 @@ ghost use Rattle.cs_model.specs.Bytes.{AddsBytes};
 ghost use Rattle.cs_model.specs.PackedChanges.{AreCanonical, Fit, change_of, unpacked_changes};
 ghost use Rattle.cs_model.specs.SectionText.{header_text, sections_text};
 ghost use Rattle.cs_model.specs.Section.{Section};
-ghost use Rattle.cs_model.specs.Seen.{change_seen, fields_seen};
+ghost use Rattle.cs_model.specs.Seen.{fields_seen};
 ghost use Rattle.cs_model.specs.Sections.{EndsWithSection, FitLast, IsPlaceOf, IsText};
 ghost use Rattle.cs_model.specs.Sections.{LastHasColumns, LastIsLong, last_flags, sections_by};
 ghost use Rattle.cs_model.specs.Sections.{with_changes};
@@ -15,10 +15,9 @@ ghost use Rattle.cs_model.specs.Sections.{with_changes};
 use crate::at::{At, grow_at, grow_last};
 use crate::canonical::text_push;
 use crate::change::Op;
-use crate::change_ref::ChangeRef;
 use crate::field_ref::FieldRef;
 use crate::packed_change::PackedChange;
-use crate::pushing::{fields_push, ref_push};
+use crate::pushing::fields_push;
 use crate::section_ref::{SectionRef, SectionRefs};
 use crate::shape::ShapeRef;
 use crate::varint::varint_push;
@@ -115,19 +114,6 @@ impl Sections {
         let bytes = change.bytes();
         self.text.extend_from_slice(bytes)?;
         grow_last(&mut self.ats, bytes.len(), 1);
-        Ok(())
-    }
-
-    /// The same for a borrowed change. Reads none of its fields.
-    pub fn push_ref(&mut self, change: &ChangeRef) -> Result<(), AllocError>
-        requires { LastIsLong self.old change.now.op change.now.before change.now.after }
-        ensures ok { OnOk result (self.new ≡ with_changes self.old (change_seen change.now ∷ [])) }
-        ensures err { OnErr result (self.new ≡ self.old) }
-    {
-        let start = self.text.len();
-        ref_push(&mut self.text, change)?;
-        let size = self.text.len() - start;
-        grow_last(&mut self.ats, size, 1);
         Ok(())
     }
 

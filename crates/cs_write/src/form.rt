@@ -57,11 +57,12 @@ fn are_own(alloc: Global, sections: SectionRefs) -> Result<bool, AllocError>
     Ok(true)
 }
 
-// Whether a changeset is in canonical form.
-fn is_form(alloc: Global, changeset: &Changeset) -> Result<bool, AllocError>
-    ensures { IfOk result (λ form. IsTrue form ↔ (canon changeset.now ≡ changeset.now)) }
+/// Whether sections are in canonical form: no two have one shape, and none is without changes.
+/// Returns `AllocError` if memory runs out.
+pub fn is_form(alloc: Global, sections: SectionRefs) -> Result<bool, AllocError>
+    ensures { IfOk result (λ form. IsTrue form ↔ (canon sections.entry ≡ sections.entry)) }
 {
-    are_own(alloc, changeset.iter())
+    are_own(alloc, sections)
 }
 
 /// Returns the canonical form of a changeset that isn't in that form itself, as `canonical` does,
@@ -70,7 +71,7 @@ fn is_form(alloc: Global, changeset: &Changeset) -> Result<bool, AllocError>
 pub fn other_form(alloc: Global, changeset: &Changeset) -> Result<Option<Changeset>, AllocError>
     ensures { IfOk result (λ form. IsFormBeside changeset.now form) }
 {
-    if is_form(alloc, changeset)? {
+    if is_form(alloc, changeset.iter())? {
         return Ok(None);
     }
     Ok(Some(canonical(alloc, changeset)?))

@@ -15,7 +15,7 @@ mod placing;
 mod sink;
 mod text;
 
-pub use form::{canonical, other_form};
+pub use form::{canonical, is_form, other_form};
 pub use groups::{Groups, add_section};
 pub use pieces::{WriteError, write_pieces};
 pub use placing::put_bytes;

@@ -1,14 +1,14 @@
 -- A last section that is given its changes one by one.
 use Rattle.std.proofs.Common.{◌≡◌, ℕ, List, [], ◌∷◌, ◌++◌, length, append_assoc, sym, ap, subst, ◌∙◌}
 use Rattle.std.proofs.lemmas.List.{append-nil}
-use Rattle.cs_model.proofs.texts.LastOne.{columns_of_last, last_is_long_of, changes_to_last}
+use Rattle.cs_model.proofs.texts.LastOne.{last_is_long_of, changes_to_last}
 use Rattle.cs_model.specs.declared.change.Change.{Change}
 use Rattle.cs_model.specs.declared.change.Op.{Op}
 use Rattle.cs_model.specs.declared.shape.Shape.{Shape}
 use Rattle.cs_model.specs.declared.value.Field.{Field}
 use Rattle.cs_model.specs.PackedChanges.{Long}
 use Rattle.cs_model.specs.Section.{Section}
-use Rattle.cs_model.specs.Sections.{LastHasColumns, LastIsLong, with_changes}
+use Rattle.cs_model.specs.Sections.{LastIsLong, with_changes}
 
 -- a section of this table behind the others
 abbrev pub one_at_end : List Section → Shape → List Change → List Section
@@ -41,22 +41,9 @@ giving_ends now front shape left all none so =
     so.stands ∙ ap (one_at_end front shape) (sym (append-nil so.given)
     ∙ ap (λ (cs : List Change). so.given ++ cs) (sym none) ∙ so.parts)
 
-pub given_has : (now front : List Section) (shape : Shape) (left all : List Change) (n : ℕ) → length shape.flags ≡ n
-    → GivenSoFar now front shape left all → LastHasColumns now n
-given_has now front shape left all n long so =
-    subst (λ (ss : List Section). LastHasColumns ss n) (sym so.stands)
-    (columns_of_last front (record { shape = shape; changes = so.given }) n long)
-
 pub given_takes : (now front : List Section) (shape : Shape) (left all : List Change) (op : Op)
     (before after : List Field) → Long (length shape.flags) op before after → GivenSoFar now front shape left all
     → LastIsLong now op before after
 given_takes now front shape left all op before after long so =
     subst (λ (ss : List Section). LastIsLong ss op before after) (sym so.stands)
     (last_is_long_of front (record { shape = shape; changes = so.given }) op before after long)
-
--- what a last section with so many columns takes
-pub last_has_room : (ss : List Section) (n : ℕ) (op : Op) (before after : List Field) → LastHasColumns ss n
-    → Long n op before after → LastIsLong ss op before after
-last_has_room [] n op before after has long = absurd has
-last_has_room (s ∷ []) n op before after has long = subst (λ k. Long k op before after) (sym has) long
-last_has_room (s ∷ t ∷ ss) n op before after has long = last_has_room (t ∷ ss) n op before after has long

@@ -1,25 +1,41 @@
-use Rattle.std.proofs.Common.{◌∙◌, length, ap, refl}
-use Rattle.cs_model.specs.Seen.{change_seen, fields_seen}
-use Rattle.cs_write.proofs.forms.Giving.{last_has_room}
-use Rattle.cs_invert.proofs.inverses.Long.{inverse_delete_long, inverse_insert_long, inverse_update_long}
+use Rattle.std.proofs.Common.{◌∙◌, ◌++◌, ◌∷◌, [], List, length, sym, ap, subst}
+use Rattle.std.proofs.lemmas.List.{length-map}
+use Rattle.std.proofs.lemmas.Result.{on_ok_weaker}
+use Rattle.cs_model.proofs.texts.LastOne.{changes_to_last, columns_of_last}
+use Rattle.cs_model.specs.declared.shape.Shape.{Shape}
+use Rattle.cs_model.specs.Section.{Section}
+use Rattle.cs_model.specs.Sections.{LastHasColumns, with_changes}
+use Rattle.cs_invert.specs.Inverse.{inverse_change, inverse_section}
+use Rattle.cs_invert.proofs.layings.Parts.{Says, inverses_packed}
+use Rattle.cs_invert.proofs.inverse.push_inverse.Goals.{After-len}
 use Rattle.cs_invert.proofs.inverse.push_inverse.Goals as goal
 
-pub push_ref-requires : goal.push_ref-requires
-push_ref-requires c = last_has_room c.args.made.now (length c.args.flags.now) _ _ _ c.requires.last
-    (inverse_insert_long c.changes_fit.ensures (length c.args.flags.now) c.args.flags.now
-    (change_seen c.args.change) (change_seen c.exchanged.result) refl c.requires.valid c.in-Insert.is
-    c.exchanged.ensures)
+-- what the text that was made says
+says : (c : After-len) → Says c.args.section.now (length c.flags.result.now) c.deref.result.now
+says c = inverses_packed c.args.section.now _ _ (ap length c.flags.ensures) c.requires.1
+    (c.deref.ensures.value ∙ c.in_ok-text.ensures)
 
-pub push_fields-requires : goal.push_fields-requires
-push_fields-requires c = last_has_room c.args.made.now (length c.args.flags.now) _ _ _ c.requires.last
-    (inverse_update_long c.changes_fit.ensures (length c.args.flags.now) c.args.flags.now
-    (change_seen c.args.change) (fields_seen c.deref.result.now) (fields_seen c.deref-in-Update.result.now)
-    refl c.requires.valid c.in-Update.is
-    (ap fields_seen c.deref.ensures.value ∙ c.in_ok-exchange-in-Update.ensures.before)
-    (ap fields_seen c.deref-in-Update.ensures.value ∙ c.in_ok-exchange-in-Update.ensures.after))
+pub push_text-requires : goal.push_text-requires
+push_text-requires c =
+    let section = c.args.section.now in
+    let s = says (goal.at.push_text-requires c).After-len in
+    record {
+      last = subst (λ (ss : List Section). LastHasColumns ss (length c.flags.result.now)) (sym c.in_ok-push_header.ensures.ok)
+          (columns_of_last c.args.made.now (record { shape = c.shape.result; changes = [] }) _
+          (ap (λ (shape : Shape). length shape.flags) c.shape.ensures ∙ ap length (sym c.flags.ensures)));
+      fit = s.packs.fit;
+      count = c.len.ensures ∙ sym (ap length s.are ∙ length-map section.changes (inverse_change section.shape.flags));
+      canonical = λ _. s.packs;
+    }
 
-pub push_ref-requires-in-Delete : goal.push_ref-requires-in-Delete
-push_ref-requires-in-Delete c = last_has_room c.args.made.now (length c.args.flags.now) _ _ _ c.requires.last
-    (inverse_delete_long c.changes_fit.ensures (length c.args.flags.now) c.args.flags.now
-    (change_seen c.args.change) (change_seen c.exchanged-in-Delete.result) refl c.requires.valid
-    c.in-Delete.is c.exchanged-in-Delete.ensures)
+pub returns : goal.returns
+returns c =
+    let s = says (goal.at.returns c).After-len in
+    let front = c.args.made.now in
+    on_ok_weaker c.push_text.result (λ made. made ∙ (λ i. with_changes (c.in_ok-push_header.ensures.ok i) (s.are i))
+    ∙ changes_to_last front (record { shape = c.shape.result; changes = [] }) (inverse_section c.args.section.now).changes
+    ∙ (λ i. front ++ record {
+      shape = c.shape.ensures i;
+      changes = (inverse_section c.args.section.now).changes;
+    } ∷ []))
+    c.push_text.ensures.ok

@@ -1,6 +1,6 @@
 use Rattle.std.proofs.Common.{refl, arith}
 use Rattle.std.proofs.lemmas.Grind.{common_steps}
-use Rattle.cs_model.specs.PackedChanges.{changes_bytes, unpacked_changes}
+use Rattle.cs_model.specs.PackedChanges.{unpacked_changes}
 use Rattle.cs_model.specs.Sections.{with_changes}
 use Rattle.cs_model.proofs.texts.GrowthLaws.{TextGrows, added_len, can_push, fewer, of_last, pushed_text}
 use Rattle.cs_model.proofs.sections.Sections.push_text.Goals as goal
