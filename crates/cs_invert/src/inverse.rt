@@ -40,12 +40,12 @@ fn push_inverse(alloc: Global, made: &mut Sections, section: &SectionRef) -> Res
     ensures { OnOk result (made.new ≡ made.old ++ inverse_section section.now ∷ []) }
 {
     made.push_header(&section.shape())?;
-    let text = inverse_text(alloc, section)?;
+    let text = inverse_bytes(alloc, section)?;
     made.push_text(section.flags().len(), &text, section.len(), true)
 }
 
 // The canonical bytes of the inverses of a section's changes, one after another.
-fn inverse_text(alloc: Global, section: &SectionRef) -> Result<Vec<u8>, AllocError>
+fn inverse_bytes(alloc: Global, section: &SectionRef) -> Result<Vec<u8>, AllocError>
     requires { IsSection section.now }
     ensures { IfOk result (λ text. text.items
         ≡ changes_bytes (inverse_section section.now).changes) }

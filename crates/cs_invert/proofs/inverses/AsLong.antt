@@ -63,13 +63,13 @@ records_as_long (flag ∷ flags) (old ∷ before) (new ∷ after) b a =
 
 -- ---- one change
 
-either_way : (a b : List ℕ) → length (a ++ b) ≡ length (b ++ a)
-either_way a b = omega (arith, length-append a b, length-append b a)
+exchanged_long : (a b : List ℕ) → length (a ++ b) ≡ length (b ++ a)
+exchanged_long a b = omega (arith, length-append a b, length-append b a)
 
 by_as_long : (op : Op) (flags : List ℕ) (indirect : Bool) (before after : List Field) → Long (length flags) op before after
     → length (change_bytes (inverse_by op flags (change_of op indirect before after)))
     ≡ length (change_bytes (change_of op indirect before after))
-by_as_long Insert flags indirect before after long = ap (λ n. suc (suc n)) (either_way (packed after) (packed before))
+by_as_long Insert flags indirect before after long = ap (λ n. suc (suc n)) (exchanged_long (packed after) (packed before))
 by_as_long Update flags indirect before after long =
     let old = inverse_old flags before after in
     let new = inverse_new flags before after in
@@ -82,7 +82,7 @@ by_as_long Update flags indirect before after long =
       length-append (packed old) (packed new),
       length-append (packed before) (packed after),
     )
-by_as_long Delete flags indirect before after long = ap (λ n. suc (suc n)) (either_way (packed after) (packed before))
+by_as_long Delete flags indirect before after long = ap (λ n. suc (suc n)) (exchanged_long (packed after) (packed before))
 
 pub change_as_long : (flags : List ℕ) (change : Change) → IsValidChange flags change
     → length (change_bytes (inverse_change flags change)) ≡ length (change_bytes change)

@@ -34,16 +34,16 @@ pub lays_first : (start : ℕ) (whole first : List ℕ) → start + length whole
 lays_first start whole first room = record { end = refl; room = room; bytes = refl }
 
 -- there is room for the next part
-pub has_room : {at start : ℕ} {left out whole first : List ℕ} → (a b : List ℕ) → left ≡ a ++ b
+pub part_fits : {at start : ℕ} {left out whole first : List ℕ} → (a b : List ℕ) → left ≡ a ++ b
     → LaysOn at left out start whole first → at + length a ≤ length out
-has_room a b is so = omega (arith, so.room, ap length is ∙ length-append a b)
+part_fits a b is so = omega (arith, so.room, ap length is ∙ length-append a b)
 
 pub lays_on : {at start : ℕ} {left out whole first : List ℕ} → (a b : List ℕ) (next : ℕ) (between : List ℕ)
     → left ≡ a ++ b → next ≡ at + length a → between ≡ laid at a out → LaysOn at left out start whole first
     → LaysOn next b between start whole first
 lays_on {at} {start} {left} {out} {whole} {first} a b next between is is_next is_between so =
     let long : length left ≡ length a + length b = ap length is ∙ length-append a b in
-    let room : at + length a ≤ length out = has_room a b is so in
+    let room : at + length a ≤ length out = part_fits a b is so in
     let same : length between ≡ length out = ap length is_between ∙ laid_length at a out room in
     record {
       end = omega (arith, so.end, is_next, long);

@@ -1,7 +1,7 @@
 -- The parts of an inverse's text, in the order in which they are written.
 use Rattle.std.proofs.Common.{◌≡◌, ◌∙◌, ℕ, ◌+◌, ◌-◌, ◌≤◌, Bool, true, false, cond, eqb, List, [], ◌∷◌, ◌++◌, length, take, drop}
-use Rattle.std.proofs.Common.{refl, sym, ap, subst, arith, append_assoc}
-use Rattle.std.proofs.lemmas.List.{append-nil, length-append, take_at}
+use Rattle.std.proofs.Common.{sym, ap, subst, arith, append_assoc}
+use Rattle.std.proofs.lemmas.List.{append-nil, length-append}
 use Rattle.std.specs.List.{AllByRecursion}
 use Rattle.cs_model.proofs.packing.FitLaws.{change_fits}
 use Rattle.cs_model.proofs.packing.PackedChangeLaws.{made}
@@ -16,6 +16,7 @@ use Rattle.cs_model.specs.PackedChanges.{Fit, PacksAll, change_bytes, changes_by
 use Rattle.cs_model.specs.Section.{Section}
 use Rattle.cs_model.specs.SectionText.{header_text, sections_text}
 use Rattle.cs_model.specs.Text.{op_byte}
+use Rattle.cs_parse.proofs.counting.Fronts.{all_fit, front_is}
 use Rattle.cs_write.proofs.buffers.Laying.{two}
 use Rattle.cs_write.specs.Buffer.{laid}
 use Rattle.cs_group.proofs.one_row.Merging.{IsValidChange}
@@ -98,9 +99,7 @@ column_parts flag left flags keys others key other keys_left others_left field i
 pub cut_back : (a b whole back front : List ℕ) → whole ≡ a ++ b → back ≡ b
     → front ≡ take (length whole - length back) whole → front ≡ a
 cut_back a b whole back front is is_back is_front =
-    let n : length whole - length back ≡ length a =
-    omega (arith, ap length is, length-append a b, ap length is_back) in
-    is_front ∙ (λ i. take (n i) (is i)) ∙ take_at a b (length a) refl
+    is_front ∙ ap (λ (end : List ℕ). take (length whole - length end) whole) is_back ∙ front_is whole a b is
 
 pub section_parts : (section : Section) (left sections : List Section) (header : List ℕ) → left ≡ section ∷ sections
     → header ≡ header_text section.shape → sections_text (inverse left)
@@ -112,23 +111,17 @@ section_parts section left sections header is is_header =
     ∙ ap (λ (text : List ℕ). text ++ (changes_bytes (inverse_section section).changes
     ++ sections_text (inverse sections))) (sym is_header)
 
-all_fit : (flags : List ℕ) (changes : List Change) → AreValidChanges flags changes
-    → AllByRecursion (Fit (length flags)) changes
-all_fit flags [] is = tt
-all_fit flags (change ∷ changes) is =
-    (change_fits (record { name = []; flags = flags }) change is.0, all_fit flags changes is.1)
-
 -- bytes that decode to the inverses of a section's changes
-pub record Says (section : Section) (n : ℕ) (text : List ℕ) : Type 0 where
+pub record PacksInverses (section : Section) (n : ℕ) (text : List ℕ) : Type 0 where
   pub are : unpacked_changes n text ≡ (inverse_section section).changes
   pub packs : PacksAll n text (unpacked_changes n text)
 
-pub inverses_packed : (section : Section) (n : ℕ) (text : List ℕ) → n ≡ length section.shape.flags
+pub packs_inverses : (section : Section) (n : ℕ) (text : List ℕ) → n ≡ length section.shape.flags
     → AreValidChanges section.shape.flags section.changes → text ≡ changes_bytes (inverse_section section).changes
-    → Says section n text
-inverses_packed section n text columns is parts =
+    → PacksInverses section n text
+packs_inverses section n text columns is parts =
     let flags = section.shape.flags in
     let changes = (inverse_section section).changes in
     let m = made n text changes parts (subst (λ k. AllByRecursion (Fit k) changes) (sym columns)
-    (all_fit flags changes (inverses_fit flags section.changes is))) in
+    (all_fit change_fits flags changes (inverses_fit flags section.changes is))) in
     record { are = m.0; packs = m.1 }

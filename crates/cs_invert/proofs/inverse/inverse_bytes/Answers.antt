@@ -1,7 +1,7 @@
 use Rattle.std.proofs.Common.{length, ap, arith}
 use Rattle.cs_invert.proofs.inverses.AsLong.{changes_as_long}
 use Rattle.cs_invert.proofs.layings.Laying.{laid_whole}
-use Rattle.cs_invert.proofs.inverse.inverse_text.Goals as goal
+use Rattle.cs_invert.proofs.inverse.inverse_bytes.Goals as goal
 
 pub put_changes-requires-clause-room : goal.put_changes-requires-clause-room
 put_changes-requires-clause-room c =
