@@ -120,8 +120,10 @@ fn put_record(
     requires room { start + length (packed (inverse_old flags.now keys.now others.now))
         ≤ length out.old }
     ensures end { result ≡ start + length (packed (inverse_old flags.now keys.now others.now)) }
-    ensures bytes { out.new ≡ laid start (packed (inverse_old flags.now keys.now others.now)) out.old }
+    ensures bytes { out.new
+        ≡ laid start (packed (inverse_old flags.now keys.now others.now)) out.old }
 {
+    // what is left of both records
     let (_, mut keys) = keys.cut(0);
     let (_, mut others) = others.cut(0);
     let mut at = start;
