@@ -57,7 +57,8 @@ pub fn put_changes(section: &SectionRef, out: &mut [u8], start: usize) -> usize
 // Writes the inverse of a change.
 fn put_change(flags: &[u8], change: &ChangeRef, out: &mut [u8], start: usize) -> usize
     requires valid { AreRecords flags.now change.now.op change.now.before change.now.after }
-    requires room { start + length (change_bytes (inverse_change flags.now (change_seen change.now)))
+    requires room { start
+        + length (change_bytes (inverse_change flags.now (change_seen change.now)))
         ≤ length out.old }
     ensures end { result
         ≡ start + length (change_bytes (inverse_change flags.now (change_seen change.now))) }
