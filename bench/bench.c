@@ -202,32 +202,41 @@ static void print_head(const char *unit) {
            unit, unit, unit);
 }
 
-/* combining once */
-static int combine_once(const char *who, enum keys keys, enum rows rows) {
-    struct input inputs[COMBINED + 1];
-    make_combined(inputs, rows, keys, MANY, COMBINED_BYTES);
-    (strcmp(who, "ours") == 0 ? ours_combines : sqlite_combines)(inputs);
-    free_combined(inputs);
-    return 0;
-}
+/* What a job alone works on: one text, of mixed changes or of INSERTs, or texts to combine, by their keys. */
+enum { MIXED = -2, INSERTS = -1 };
+static const struct alone {
+    const char *name;
+    job *ours, *sqlite;
+    int input;
+} jobs_alone[] = {
+    {"read", ours_reads, sqlite_reads, MIXED},        {"build", ours_builds, sqlite_reads, MIXED},
+    {"write", ours_writes, sqlite_writes, MIXED},     {"invert", ours_inverts, sqlite_inverts, MIXED},
+    {"inserts", ours_inverts, sqlite_inverts, INSERTS}, {"hot", ours_combines, sqlite_combines, HOT},
+    {"apart", ours_combines, sqlite_combines, APART}, {"recorded", ours_combines, sqlite_combines, RECORDED},
+    {"scattered", ours_combines, sqlite_combines, SCATTERED},
+};
 
-/* Runs one job once, for a profiler: `ours` or `sqlite`, `read`, `build`, `write`, `invert`, `hot`, `apart`,
- * `recorded` or `scattered` (combining), and `integers`, `texts` or `blobs`. */
-static int run_once(const char *who, const char *what, const char *which) {
-    const char *names[] = {"ours",  "sqlite",   "read",      "build",    "write", "invert", "hot",
-                           "apart", "recorded", "scattered", "integers", "texts", "blobs"};
-    int known = 0;
-    for (int i = 0; i < 13; i++) known += !strcmp(i < 2 ? who : i < 10 ? what : which, names[i]);
-    if (known != 3) return fprintf(stderr, "bench: no job is called `%s %s %s`\n", who, what, which), 2;
+/* Runs one job, `ours`, `sqlite` or `lean`, with `integers`, `texts` or `blobs`: once, for a profiler, or `runs` times.
+ * Then it prints the least time, in milliseconds. */
+static int run_alone(const char *who, const char *what, const char *which, int runs) {
+    int ours = strcmp(who, "ours") == 0, lean = strcmp(who, "lean") == 0;
+    const struct alone *alone = jobs_alone, *end = alone + sizeof jobs_alone / sizeof *alone;
+    while (alone < end && strcmp(what, alone->name)) alone++;
+    if (alone == end || (!ours && !lean && strcmp(who, "sqlite")) || !strchr("itb", *which))
+        return fprintf(stderr, "bench: no job is called `%s %s %s`\n", who, what, which), 2;
     enum rows rows = *which == 'i' ? INTEGERS : *which == 't' ? TEXTS : BLOBS;
-    for (int keys = HOT; keys <= SCATTERED; keys++)
-        if (strcmp(what, names[6 + keys]) == 0) return combine_once(who, (enum keys)keys, rows);
-    struct input input = make_input(rows, MANY, USUAL_BYTES);
-    int writes = strcmp(what, "write") == 0, builds = strcmp(what, "build") == 0, inverts = strcmp(what, "invert") == 0;
-    if (strcmp(who, "ours") == 0)
-        (inverts ? ours_inverts : writes ? ours_writes : builds ? ours_builds : ours_reads)(&input);
-    else (inverts ? sqlite_inverts : writes ? sqlite_writes : sqlite_reads)(&input);
-    free(input.bytes);
+    struct input inputs[COMBINED + 1];
+    if (alone->input >= 0) make_combined(inputs, rows, (enum keys)alone->input, MANY, COMBINED_BYTES);
+    else *inputs = (alone->input == INSERTS ? make_inserts : make_input)(rows, MANY, USUAL_BYTES);
+    configure_sqlite(lean);
+    double least = seconds(ours ? alone->ours : alone->sqlite, inputs, 1);
+    for (int run = 1; run < runs; run++) {
+        double took = seconds(ours ? alone->ours : alone->sqlite, inputs, 1);
+        if (took < least) least = took;
+    }
+    if (runs > 1) printf("%.3f\n", least * 1e3);
+    if (alone->input >= 0) free_combined(inputs);
+    else free(inputs->bytes);
     return 0;
 }
 
@@ -235,10 +244,10 @@ int main(int count, char **words) {
     /* what is given back stays with the process, or else the kernel's new pages cost more than either library */
     mallopt(M_MMAP_MAX, 0);
     mallopt(M_TRIM_THRESHOLD, -1);
-    if (count == 4) return run_once(words[1], words[2], words[3]);
+    if (count == 4 || count == 5) return run_alone(words[1], words[2], words[3], count == 5 ? atoi(words[4]) : 1);
     if (count == 2 && strcmp(words[1], "combine") == 0) return compare_all_combining(), 0;
     if (count == 2 && strcmp(words[1], "invert") == 0) return compare_all_inverting(), 0;
-    if (count > 1) return fprintf(stderr, "bench [combine | invert | ours|sqlite JOB ROWS]\n"), 2;
+    if (count > 1) return fprintf(stderr, "bench [combine | invert | ours|sqlite|lean JOB ROWS [RUNS]]\n"), 2;
     print_head("MB/s");
     compare_bytes(INTEGERS, "integer rows");
     compare_bytes(TEXTS, "100-byte text rows");
