@@ -12,12 +12,21 @@ from pathlib import Path
 
 ROOT = Path(__file__).resolve().parent.parent
 IMPORT = re.compile(r"ghost use Rattle\.(\w+)\.specs\.([\w.]+?)(?:\.\{([^}]*)\}| as (\w+));")
+NESTED = re.compile(r"ghost use Rattle\.(\w+)\.specs\.\{((?:[^{};]|\{[^{}]*\})*)\};")
+INNER = re.compile(r"([\w.]+)\.(\{[^}]*\})")
 WORD = re.compile(r"[A-Za-z_][\w'-]*")
+
+
+def flat(found):
+    """A statement that brings in several modules of a crate, as a statement for each."""
+    crate, modules = found.groups()
+    return "\n".join(f"ghost use Rattle.{crate}.specs.{module}.{names};" for module, names in INNER.findall(modules))
 
 
 def imported(text, ours):
     """The definitions of our crates that a file brings in, by name; modules brought in as a name."""
     names, modules = {}, {}
+    text = NESTED.sub(flat, text)
     for crate, module, group, alias in IMPORT.findall(text):
         if crate not in ours or "declared" in module or "contracts" in module:
             continue

@@ -5,7 +5,5 @@ pub mod Messages
 pub mod Opening
 pub mod RowTexts
 pub mod Rows
-pub mod Seal
 pub mod Serving
-pub mod Slot
 pub mod Texts

@@ -2,7 +2,8 @@
 //! `Vec` crosses to C.
 
 ghost use Rattle.std.specs.Prelude.{◌≡◌, Bool, true, false};
-ghost use Rattle.broker_c.specs.Seal.{SealedWorld, sealed_coded, seal_owns};
+ghost use Rattle.rb_core.specs.contracts.world.World as world;
+ghost use Rattle.broker_c.specs.Boxed.{owns_if};
 
 use crate::parts::Parts;
 use rb_core::World;
@@ -16,11 +17,11 @@ pub struct Seal {
     pointer: *mut u8,
     alloc: Global,
     pub ghost full: { Bool },
-    pub ghost held: { SealedWorld } by { sealed_coded },
+    pub ghost held: { world.the_row.Denot } by { world.the_row.coded },
 }
 
 impl Model for Seal {
-    ghost also_owns = { λ s. seal_owns s.full s.alloc s.pointer s.held };
+    ghost also_owns = { λ s. owns_if world.the_row s.full s.alloc s.pointer s.held };
 }
 
 impl Seal {

@@ -1,7 +1,8 @@
 //! What C sees as a `broker *`: a handle's box, without its type.
 
 ghost use Rattle.std.specs.Prelude.{◌≡◌, Bool, true, false};
-ghost use Rattle.broker_c.specs.Slot.{SlotHandle, slot_coded, slot_owns};
+ghost use Rattle.broker_c.specs.Boxed.{owns_if};
+ghost use Rattle.broker_c.specs.contracts.handle.Handle as handle;
 
 use crate::handle::Handle;
 use crate::parts::Parts;
@@ -14,11 +15,11 @@ pub struct Slot {
     pointer: *mut u8,
     alloc: Global,
     pub ghost full: { Bool },
-    pub ghost held: { SlotHandle } by { slot_coded },
+    pub ghost held: { handle.the_row.Denot } by { handle.the_row.coded },
 }
 
 impl Model for Slot {
-    ghost also_owns = { λ s. slot_owns s.full s.alloc s.pointer s.held };
+    ghost also_owns = { λ s. owns_if handle.the_row s.full s.alloc s.pointer s.held };
 }
 
 impl Slot {

@@ -1,5 +1,7 @@
 -- The exports' results allow no other result, because a text either spells one changeset or has one fault.
 use Rattle.std.proofs.Common.{◌≡◌, ℕ, suc, zero, ◌⊎◌, inl, inr, ℤ, pos, negsuc, List, length, refl, sym, ap, ◌∙◌}
+use Rattle.std.proofs.Common.{Fits, w8, w64, to_z, of_z, get_or, subst, arith}
+use Rattle.cs_model.specs.Bytes.{AreBytes}
 use Rattle.cs_model.specs.Section.{Section}
 use Rattle.cs_model.specs.Text.{Spells}
 use Rattle.cs_parse.specs.declared.fault.ParseFault.{ParseFault}
@@ -43,7 +45,7 @@ check_fault (negsuc zero) at kind text either says fault t =
     (refl, says.is_place ∙ ap (λ f. f.at) same, says.is_kind ∙ ap (λ f. kind_number f.kind) same)
 check_fault (negsuc (suc n)) at kind text either says fault t = absurd says
 
-pub write_only : (made : List Section → List ℕ) (answer : ℤ) (before after text : List ℕ) → EitherOf text
+write_only : (made : List Section → List ℕ) (answer : ℤ) (before after text : List ℕ) → EitherOf text
     → WriteSays made answer before after text → (changeset : List Section) → Spells text changeset
     → IsNumber answer (length (made changeset))
 write_only made (pos n) before after text either says changeset s =
@@ -53,7 +55,7 @@ write_only made (negsuc zero) before after text either says changeset s =
 write_only made (negsuc (suc zero)) before after text either says changeset s = refl
 write_only made (negsuc (suc (suc n))) before after text either says changeset s = absurd says
 
-pub write_fault : (made : List Section → List ℕ) (answer : ℤ) (before after text : List ℕ) → EitherOf text
+write_fault : (made : List Section → List ℕ) (answer : ℤ) (before after text : List ℕ) → EitherOf text
     → WriteSays made answer before after text → (fault : ParseFault) → IsFault text fault → answer ≡ negsuc 0
 write_fault made (pos n) before after text either says fault t =
     absurd (not_both text either says.changeset fault says.spelled t)
@@ -61,3 +63,19 @@ write_fault made (negsuc zero) before after text either says fault t = refl
 write_fault made (negsuc (suc zero)) before after text either says fault t =
     absurd (not_both text either says.0.0 fault says.0.1 t)
 write_fault made (negsuc (suc (suc n))) before after text either says fault t = absurd says
+
+-- the same of a result that C gets as an `i64`
+pub written_for_c : (made : List Section → List ℕ) (answer : ℤ) (before after text : List ℕ)
+    → to_z w64 (of_z w64 answer) ≡ answer → ((text : List ℕ) → AreBytes text → EitherOf text)
+    → ((i : ℕ) → Fits w8 (get_or text i 0)) → WriteSays made answer before after text
+    → WriteSays made (to_z w64 (of_z w64 answer)) before after text
+    × ((changeset : List Section) → Spells text changeset
+    → IsNumber (to_z w64 (of_z w64 answer)) (length (made changeset)))
+    × ((fault : ParseFault) → IsFault text fault → to_z w64 (of_z w64 answer) ≡ negsuc 0)
+written_for_c made answer before after text same either bytes says =
+    let one = either text (λ i. omega (arith, bytes i)) in (
+      subst (λ n. WriteSays made n before after text) (sym same) says,
+      λ changeset s. subst (λ n. IsNumber n (length (made changeset))) (sym same)
+          (write_only made answer before after text one says changeset s),
+      λ fault t. same ∙ write_fault made answer before after text one says fault t,
+    )

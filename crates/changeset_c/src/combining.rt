@@ -1,15 +1,10 @@
 //! Combines several texts into one, as the export `changeset_combine` does.
 
-ghost use Rattle.std.specs.Prelude.{◌≡◌, ℕ, List, [], IfErr, IfOk, None, OnErr, OnOk};
-ghost use Rattle.std.specs.Prelude.{length, pos};
-ghost use Rattle.cs_group.specs.Adding.{first_refused, sections_in};
-ghost use Rattle.cs_group.specs.Group.{group_of};
-ghost use Rattle.cs_write.specs.Buffer.{given};
-ghost use Rattle.cs_write.specs.Text.{text_of};
-ghost use Rattle.changeset_c.specs.Combining.{texts_of};
-ghost use Rattle.changeset_c.specs.Combining.{CombineSays, KeptUnlessBad, ReadUntil, Refuses};
-ghost use Rattle.changeset_c.specs.Combining.{ReportsFirstClash, Writes};
-ghost use Rattle.changeset_c.specs.Says.{KeptBut};
+ghost use Rattle.std.specs.Prelude.{◌≡◌, ℕ, List, [], IfErr, IfOk, None, OnErr, OnOk, length, pos};
+ghost use Rattle.cs_group.specs.{Adding.{first_refused, sections_in}, Group.{group_of}};
+ghost use Rattle.cs_write.specs.{Buffer.{given}, Text.{text_of}};
+ghost use Rattle.changeset_c.specs.Combining.{texts_of, CombineSays, KeptUnlessBad, ReadUntil};
+ghost use Rattle.changeset_c.specs.{Combining.{Refuses, ReportsFirstClash, Writes}, Says.{KeptBut}};
 ghost use Rattle.changeset_c.specs.declared.combining.CombineError.TheVariants.{Memory};
 
 use crate::results::{CLASH, NO_CHANGESET, NO_MEMORY};

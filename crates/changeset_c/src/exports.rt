@@ -2,16 +2,14 @@
 //! pointer and its length. The allocator isn't an argument in C.
 
 ghost use Rattle.std.specs.Prelude.{◌≡◌, ℕ, List, [], None, pos, negsuc, length};
-ghost use Rattle.cs_model.specs.Section.{Section};
-ghost use Rattle.cs_model.specs.Text.{Spells};
-ghost use Rattle.cs_parse.specs.declared.fault.ParseFault.{ParseFault};
-ghost use Rattle.cs_parse.specs.Count.{changes_in};
+ghost use Rattle.cs_model.specs.{Section.{Section}, Text.{Spells}};
+ghost use Rattle.cs_parse.specs.{declared.fault.ParseFault.{ParseFault}, Count.{changes_in}};
 ghost use Rattle.cs_parse.specs.Fault.{IsFault};
 ghost use Rattle.cs_write.specs.Text.{text_of};
 ghost use Rattle.cs_group.specs.Adding.{first_refused};
 ghost use Rattle.changeset_c.specs.Combining.{CombineSays, HasClash, HasTextFault, IsClash};
-ghost use Rattle.changeset_c.specs.Combining.{IsTextFault, KeptUnlessBad, SpellAll};
-ghost use Rattle.changeset_c.specs.Combining.{combined_text, texts_of};
+ghost use Rattle.changeset_c.specs.Combining.{IsTextFault, KeptUnlessBad, SpellAll, combined_text};
+ghost use Rattle.changeset_c.specs.Combining.{texts_of};
 ghost use Rattle.changeset_c.specs.Says.{CanonicalSays, CheckSays, InvertSays, IsFaultAt, IsNumber};
 ghost use Rattle.changeset_c.specs.Says.{KeptBut, inverse_text};
 

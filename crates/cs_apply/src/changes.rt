@@ -2,16 +2,13 @@
 //! conflict, and undoes it.
 
 ghost use Rattle.std.specs.Prelude.{◌≡◌, ◌+◌, ◌<◌, ◌^◌, Ok, OnOk, IfErr, length, true};
-ghost use Rattle.std.specs.FinMap as map;
 ghost use Rattle.std.specs.List.{list_all};
-ghost use Rattle.cs_model.specs.Changeset.{IsChange, IsChangeset, IsSection};
-ghost use Rattle.cs_model.specs.Row.{values_of};
-ghost use Rattle.cs_model.specs.Rule.{is_defined};
-ghost use Rattle.cs_model.specs.Seen.{change_seen};
+ghost use Rattle.std.specs.FinMap as map;
+ghost use Rattle.cs_model.specs.{Changeset.{IsChange, IsChangeset, IsSection}, Row.{values_of}};
+ghost use Rattle.cs_model.specs.{Rule.{is_defined}, Seen.{change_seen}};
 ghost use Rattle.cs_apply.specs.Effect.{inserted, deleted, changed, effect};
 ghost use Rattle.cs_apply.specs.Errors.{ReportsConflict, ReportsKind};
-ghost use Rattle.cs_apply.specs.Single.{changes_of, single_from};
-ghost use Rattle.cs_apply.specs.State.{compatible};
+ghost use Rattle.cs_apply.specs.{Single.{changes_of, single_from}, State.{compatible}};
 ghost use Rattle.cs_apply.specs.Steps.{rows_in, section_from, Back};
 
 use crate::change_error::ChangeError;

@@ -2,18 +2,13 @@
 //! may need memory; the row is set later, without allocating.
 
 ghost use Rattle.std.specs.Prelude.{◌≡◌, length, not, Some, None, IfOk, IfErr, OnOk, OnErr, Ok};
-ghost use Rattle.std.specs.Option.{option_copied};
-ghost use Rattle.std.specs.Arc.{arc_value};
-ghost use Rattle.std.specs.Bool.{Decides};
+ghost use Rattle.std.specs.{Option.{option_copied}, Arc.{arc_value}, Bool.{Decides}};
 ghost use Rattle.std.specs.FinMap as map;
 ghost use Rattle.std.specs.FinSet as set;
 ghost use Rattle.cs_model.specs.declared.row_key.RowKey.{RowKey as Key};
-ghost use Rattle.cs_apply.specs.Columns.{HaveColumns};
-ghost use Rattle.cs_apply.specs.Errors.{ReportsConflict};
-ghost use Rattle.cs_apply.specs.Held.{FitsKey, CanHoldRow, KeyHasPlace};
-ghost use Rattle.cs_apply.specs.Held.{held_also, is_key_placed, with_row};
-ghost use Rattle.cs_apply.specs.Seen.{listed};
-ghost use Rattle.cs_apply.specs.Single.{single};
+ghost use Rattle.cs_apply.specs.{Columns.{HaveColumns}, Errors.{ReportsConflict}};
+ghost use Rattle.cs_apply.specs.Held.{FitsKey, CanHoldRow, KeyHasPlace, held_also, is_key_placed};
+ghost use Rattle.cs_apply.specs.{Held.{with_row}, Seen.{listed}, Single.{single}};
 ghost use Rattle.cs_apply.specs.State.{compatible};
 
 use crate::changes::{change_all, kept_table};
@@ -34,11 +29,9 @@ pub struct HeldTables {
 }
 
 impl Model for HeldTables {
-    ghost use Rattle.std.specs.Prelude.{◌≡◌, [], length};
-    ghost use Rattle.std.specs.Arc.{arc_value};
+    ghost use Rattle.std.specs.{Prelude.{◌≡◌, [], length}, Arc.{arc_value}};
     ghost use Rattle.cs_apply.specs.Columns.{RowsHaveColumns};
-    ghost use Rattle.cs_apply.specs.Held.{HeldState, held_keys, held_state_code};
-    ghost use Rattle.cs_apply.specs.Steps.{rows_of};
+    ghost use Rattle.cs_apply.specs.{Held.{HeldState, held_keys, held_state_code}, Steps.{rows_of}};
 
     ghost Value = { HeldState };
 
@@ -127,10 +120,15 @@ impl HeldTables {
     pub(crate) fn is_same(&self, other: &HeldTables) -> bool
         ensures { Decides result (self.now.state ≡ other.now.state) }
     {
-        self.schema.tables() == other.schema.tables()
-            && self.kept == other.kept
-            && self.places.are_in(&other.places)
-            && other.places.are_in(&self.places)
+        self.has_setup_of(other) && self.places.has_rows_of(&other.places)
+    }
+
+    // whether the schema and the kept tables are the same
+    fn has_setup_of(&self, other: &HeldTables) -> bool
+        ensures { Decides result ((self.now.state.schema ≡ other.now.state.schema)
+            × (self.now.state.kept ≡ other.now.state.kept)) }
+    {
+        self.schema.tables() == other.schema.tables() && self.kept == other.kept
     }
 
     /// Applies all changes of a changeset, as `Tables::apply`. Places may go. An `Err` changes

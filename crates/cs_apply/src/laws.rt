@@ -2,11 +2,8 @@
 //! that needs one calls it.
 
 ghost use Rattle.std.specs.Prelude.{◌≡◌, ◌↔◌, ◌++◌, List, Ok};
-ghost use Rattle.cs_model.specs.Changeset.{IsChangeset};
-ghost use Rattle.cs_model.specs.Section.{Section};
-ghost use Rattle.cs_apply.specs.Columns.{HaveColumns};
-ghost use Rattle.cs_apply.specs.OneByOne.{AppliesBoth};
-ghost use Rattle.cs_apply.specs.Single.{single};
+ghost use Rattle.cs_model.specs.{Changeset.{IsChangeset}, Section.{Section}};
+ghost use Rattle.cs_apply.specs.{Columns.{HaveColumns}, OneByOne.{AppliesBoth}, Single.{single}};
 ghost use Rattle.cs_apply.specs.State.{TableState};
 
 /// A list of sections applies without conflict exactly if its first part does, and then the second

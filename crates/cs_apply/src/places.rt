@@ -5,18 +5,14 @@
 //! it back needs no room.
 
 ghost use Rattle.std.specs.Prelude.{◌≡◌, [], length, take, Option, List, Some, Ok, slice_get};
-ghost use Rattle.std.specs.Prelude.{IfSome, IfOk, IfErr, OnOk};
-ghost use Rattle.std.specs.Option.{option_map};
-ghost use Rattle.std.specs.FinMap as map;
-ghost use Rattle.cs_model.specs.declared.value.Value.{Value};
-ghost use Rattle.cs_model.specs.declared.row_key.RowKey.{RowKey};
+ghost use Rattle.std.specs.{Prelude.{IfSome, IfOk, IfErr, OnOk}, Option.{option_map}};
 ghost use Rattle.std.specs.Bool.{Decides};
-ghost use Rattle.cs_apply.specs.Effect.{inserted};
-ghost use Rattle.cs_apply.specs.Errors.{ReportsKind};
-ghost use Rattle.cs_apply.specs.Seen.{listed};
+ghost use Rattle.std.specs.FinMap as map;
+ghost use Rattle.cs_model.specs.{declared.value.Value.{Value}, declared.row_key.RowKey.{RowKey}};
+ghost use Rattle.cs_apply.specs.{Effect.{inserted}, Errors.{ReportsKind}, Seen.{listed}};
 ghost use Rattle.cs_apply.specs.State.{AreIn};
-ghost use Rattle.cs_apply.specs.Steps.{empty_after, filled, rows_of, rows_in, put};
-ghost use Rattle.cs_apply.specs.Steps.{set_at, undone, Back};
+ghost use Rattle.cs_apply.specs.Steps.{empty_after, filled, rows_of, rows_in, put, set_at, undone};
+ghost use Rattle.cs_apply.specs.Steps.{Back};
 
 use crate::change_error::ChangeError;
 use crate::conflict::ConflictKind;
@@ -74,8 +70,8 @@ impl Places {
         Some((place, row.as_ref()?))
     }
 
-    /// Whether each of these rows is a row of the others, too, under the same key.
-    pub(crate) fn are_in(&self, others: &Places) -> bool
+    // whether each of these rows is a row of the others, too, under the same key
+    fn are_in(&self, others: &Places) -> bool
         ensures { Decides result (AreIn (rows_in self.now) (rows_in others.now)) }
     {
         // for its clause that no two keys are equal
@@ -88,6 +84,13 @@ impl Places {
             }
         }
         true
+    }
+
+    /// Whether these rows are the rows of the others, under the same keys.
+    pub(crate) fn has_rows_of(&self, others: &Places) -> bool
+        ensures { Decides result (rows_in self.now ≡ rows_in others.now) }
+    {
+        self.are_in(others) && others.are_in(self)
     }
 
     // whether this key has this row

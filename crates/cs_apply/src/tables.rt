@@ -2,16 +2,10 @@
 //! places.
 
 ghost use Rattle.std.specs.Prelude.{◌≡◌, length, IfOk, IfErr, OnOk, OnErr, Ok};
-ghost use Rattle.std.specs.Option.{option_copied};
-ghost use Rattle.std.specs.Arc.{arc_value};
-ghost use Rattle.std.specs.Bool.{Decides};
-ghost use Rattle.std.specs.Borrow.{sem};
+ghost use Rattle.std.specs.{Option.{option_copied}, Arc.{arc_value}, Bool.{Decides}, Borrow.{sem}};
 ghost use Rattle.std.specs.FinMap as map;
-ghost use Rattle.cs_apply.specs.Columns.{HaveColumns};
-ghost use Rattle.cs_apply.specs.Seen.{listed};
-ghost use Rattle.cs_apply.specs.Single.{single};
-ghost use Rattle.cs_apply.specs.State.{compatible};
-ghost use Rattle.cs_apply.specs.Errors.{ReportsConflict};
+ghost use Rattle.cs_apply.specs.{Columns.{HaveColumns}, Seen.{listed}, Single.{single}};
+ghost use Rattle.cs_apply.specs.{State.{compatible}, Errors.{ReportsConflict}};
 ghost use Rattle.cs_apply.specs.Lending.{LendsPlaces};
 
 use crate::conflict::ApplyError;

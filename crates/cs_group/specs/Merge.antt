@@ -41,19 +41,19 @@ old_if_changed flag old new = if flag == 0 && equal_fields old new then Undefine
 abbrev pub new_if_changed : ℕ → Field → Field → Field
 new_if_changed flag old new = if flag == 0 && not (equal_fields old new) then new else Undefined
 
+-- a field for each column, made of its key flag and its fields in two records
+abbrev pub by_column : (ℕ → Field → Field → Field) → List ℕ → List Field → List Field → List Field
+by_column make [] before after = []
+by_column make (flag ∷ flags) [] after = []
+by_column make (flag ∷ flags) (old ∷ before) [] = []
+by_column make (flag ∷ flags) (old ∷ before) (new ∷ after) =
+    make flag old new ∷ by_column make flags before after
+
 abbrev pub olds_changed : List ℕ → List Field → List Field → List Field
-olds_changed [] before after = []
-olds_changed (flag ∷ flags) [] after = []
-olds_changed (flag ∷ flags) (old ∷ before) [] = []
-olds_changed (flag ∷ flags) (old ∷ before) (new ∷ after) =
-    old_if_changed flag old new ∷ olds_changed flags before after
+olds_changed flags before after = by_column old_if_changed flags before after
 
 abbrev pub news_changed : List ℕ → List Field → List Field → List Field
-news_changed [] before after = []
-news_changed (flag ∷ flags) [] after = []
-news_changed (flag ∷ flags) (old ∷ before) [] = []
-news_changed (flag ∷ flags) (old ∷ before) (new ∷ after) =
-    new_if_changed flag old new ∷ news_changed flags before after
+news_changed flags before after = by_column new_if_changed flags before after
 
 -- the UPDATE between these records, or none if no column is left
 abbrev pub update_between : List ℕ → Bool → List Field → List Field → Option Change

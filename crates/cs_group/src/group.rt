@@ -2,13 +2,10 @@
 
 ghost use Rattle.std.specs.Prelude.{◌≡◌, ◌++◌, [], None, IfErr, IfOk, List, OnErr, OnOk, length};
 ghost use Rattle.std.specs.Prelude.{take};
-ghost use Rattle.cs_model.specs.Changeset.{IsChangeset};
-ghost use Rattle.cs_model.specs.Section.{Section};
-ghost use Rattle.cs_write.specs.Buffer.{given};
-ghost use Rattle.cs_write.specs.Text.{text_of};
+ghost use Rattle.cs_model.specs.{Changeset.{IsChangeset}, Section.{Section}};
+ghost use Rattle.cs_write.specs.{Buffer.{given}, Text.{text_of}};
 ghost use Rattle.cs_group.specs.Adding.{Knows, ReportsClash, ReportsIfSchema, first_refused};
-ghost use Rattle.cs_group.specs.Adding.{sections_in};
-ghost use Rattle.cs_group.specs.Group.{first_clash, group_of};
+ghost use Rattle.cs_group.specs.{Adding.{sections_in}, Group.{first_clash, group_of}};
 
 use crate::clash::{error_of_all, error_of_one};
 use crate::error::GroupError;
@@ -31,8 +28,7 @@ pub struct Group<'a> {
 
 impl<'a> Model for Group<'a> {
     ghost use Rattle.std.specs.Prelude.{List};
-    ghost use Rattle.cs_model.specs.Changeset.{IsChangeset};
-    ghost use Rattle.cs_model.specs.Section.{Section};
+    ghost use Rattle.cs_model.specs.{Changeset.{IsChangeset}, Section.{Section}};
     ghost use Rattle.cs_group.specs.Adding.{Knows};
 
     ghost Value = { List Section };

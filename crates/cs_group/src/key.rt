@@ -4,11 +4,9 @@ ghost use Rattle.std.specs.Prelude.{◌≡◌, ◌∷◌, [], ℕ, IfOk, List};
 ghost use Rattle.std.specs.Cmp.{partial_equiv_from_equiv};
 ghost use Rattle.std.specs.Cmp.Lexicographic.{nat_list_eq_equiv, same_text};
 ghost use Rattle.std.proofs.Common.{ap, sym};
-ghost use Rattle.cs_model.specs.KeyRun.{IsKeyRun, TellsKey};
-ghost use Rattle.cs_model.specs.Schema.{same_bytes};
+ghost use Rattle.cs_model.specs.{KeyRun.{IsKeyRun, TellsKey}, Schema.{same_bytes}};
 ghost use Rattle.cs_model.specs.Seen.{change_seen};
-ghost use Rattle.cs_group.specs.Group.{changed_row};
-ghost use Rattle.cs_group.specs.Key.{bytes_of_key};
+ghost use Rattle.cs_group.specs.{Group.{changed_row}, Key.{bytes_of_key}};
 
 use cs_model::{ChangeRef, KeyColumns, Octets, Op, PackedChange, key_of_row};
 use std::alloc::{AllocError, Global};

@@ -2,14 +2,10 @@
 //! changesets and tables; a caller that needs one calls it.
 
 ghost use Rattle.std.specs.Prelude.{◌≡◌, ◌++◌, List, None, Ok, Err};
-ghost use Rattle.cs_model.specs.declared.shape.Shape.{Shape};
-ghost use Rattle.cs_model.specs.Changeset.{IsChangeset};
-ghost use Rattle.cs_model.specs.Schema.{IsSchema, refusal_of};
-ghost use Rattle.cs_model.specs.Section.{Section};
-ghost use Rattle.cs_apply.specs.declared.conflict.Conflict.{Conflict};
-ghost use Rattle.cs_apply.specs.Single.{single};
-ghost use Rattle.cs_apply.specs.State.{TableState};
-ghost use Rattle.cs_apply.specs.Columns.{HaveColumns};
+ghost use Rattle.cs_model.specs.{declared.shape.Shape.{Shape}, Changeset.{IsChangeset}};
+ghost use Rattle.cs_model.specs.{Schema.{IsSchema, refusal_of}, Section.{Section}};
+ghost use Rattle.cs_apply.specs.{declared.conflict.Conflict.{Conflict}, Single.{single}};
+ghost use Rattle.cs_apply.specs.{State.{TableState}, Columns.{HaveColumns}};
 ghost use Rattle.cs_group.specs.Group.{first_clash, group_of};
 
 use cs_model::laws::{changes_fit, fields_again};

@@ -1,5 +1,5 @@
 -- The inverse of a changeset (*Inverse*), and a changeset's withdrawal (*Withdrawal*).
-use Rattle.std.specs.Prelude.{◌≡◌, ℕ, ◌==◌, Bool, true, false, ◌&&◌, if◌then◌else◌, List, [], ◌∷◌}
+use Rattle.std.specs.Prelude.{◌≡◌, ℕ, ◌==◌, Bool, true, false, ◌&&◌, if◌then◌else◌, List}
 use Rattle.std.specs.Prelude.{◌++◌, map}
 use Rattle.std.specs.List.{list_any}
 use Rattle.cs_model.specs.declared.value.Field.{Field}
@@ -11,25 +11,20 @@ use Rattle.cs_model.specs.PackedChanges.{change_of}
 use Rattle.cs_model.specs.Schema.{same_bytes}
 use Rattle.cs_model.specs.Section.{Section}
 use Rattle.cs_group.specs.Group.{changed_row, group_of}
+use Rattle.cs_group.specs.Merge.{by_column}
 
 -- ---- one change
 
 -- An UPDATE's old record with the new values in place of the old ones outside the key. The key's
 -- values stay.
 abbrev pub inverse_old : List ℕ → List Field → List Field → List Field
-inverse_old [] before after = []
-inverse_old (flag ∷ flags) [] after = []
-inverse_old (flag ∷ flags) (old ∷ before) [] = []
-inverse_old (flag ∷ flags) (old ∷ before) (new ∷ after) =
-    (if flag == 0 then new else old) ∷ inverse_old flags before after
+inverse_old flags before after =
+    by_column (λ flag old new. if flag == 0 then new else old) flags before after
 
 -- its new record with the old values in place of the new ones outside the key
 abbrev pub inverse_new : List ℕ → List Field → List Field → List Field
-inverse_new [] before after = []
-inverse_new (flag ∷ flags) [] after = []
-inverse_new (flag ∷ flags) (old ∷ before) [] = []
-inverse_new (flag ∷ flags) (old ∷ before) (new ∷ after) =
-    (if flag == 0 then old else new) ∷ inverse_new flags before after
+inverse_new flags before after =
+    by_column (λ flag old new. if flag == 0 then old else new) flags before after
 
 -- the bytes of both
 abbrev pub exchanged_bytes : List ℕ → List Field → List Field → List ℕ

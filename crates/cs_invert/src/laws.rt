@@ -2,13 +2,9 @@
 //! changesets and tables; a caller that needs one calls it.
 
 ghost use Rattle.std.specs.Prelude.{◌≡◌, List, None, Ok};
-ghost use Rattle.cs_model.specs.declared.shape.Shape.{Shape};
-ghost use Rattle.cs_model.specs.Changeset.{IsChangeset};
-ghost use Rattle.cs_model.specs.Schema.{refusal_of};
-ghost use Rattle.cs_model.specs.Section.{Section};
-ghost use Rattle.cs_apply.specs.Columns.{HaveColumns};
-ghost use Rattle.cs_apply.specs.Single.{single};
-ghost use Rattle.cs_apply.specs.State.{TableState};
+ghost use Rattle.cs_model.specs.{declared.shape.Shape.{Shape}, Changeset.{IsChangeset}};
+ghost use Rattle.cs_model.specs.{Schema.{refusal_of}, Section.{Section}};
+ghost use Rattle.cs_apply.specs.{Columns.{HaveColumns}, Single.{single}, State.{TableState}};
 ghost use Rattle.cs_invert.specs.Inverse.{AreApart, inverse, withdrawal_of};
 
 use cs_model::laws::{changes_fit, fields_again};

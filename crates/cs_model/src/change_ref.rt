@@ -3,14 +3,18 @@
 
 ghost use Rattle.std.specs.Prelude.{◌≡◌, ◌∷◌, [], IfSome, MatchOption, drop, take};
 ghost use Rattle.std.specs.List.{AllByRecursion};
-ghost use Rattle.cs_model.specs.Packed.{packed, unpacked, Fits, Packs};
-ghost use Rattle.cs_model.specs.PackedChanges.{some_in, op_in, records_by, unpacked_changes};
-ghost use Rattle.cs_model.specs.PackedChanges.{AreCanonical, BeginsFields, BeginsUnpacked};
-ghost use Rattle.cs_model.specs.PackedOne.{IsAfterFirst};
-ghost use Rattle.cs_model.specs.Seen.{change_seen};
+ghost use Rattle.std.specs.Iterator.{YieldsFirstBy};
+ghost use Rattle.cs_model.specs.{
+  Packed.{packed, unpacked, Fits, Packs},
+  PackedOne.{IsAfterFirst},
+  Seen.{change_seen},
+  PackedChanges.{some_in, op_in, records_by, unpacked_changes},
+  PackedChanges.{AreCanonical, BeginsFields, BeginsUnpacked},
+};
 
 use crate::change::Op;
 use crate::fields::{Fields, typed_of};
+use crate::packed_change::{PackedChange, packed_first};
 use std::iter::Iterator;
 use std::marker::Model;
 
@@ -22,8 +26,7 @@ pub struct RecordRef<'a> {
 
 impl<'a> Model for RecordRef<'a> {
     ghost use Rattle.std.specs.Prelude.{List};
-    ghost use Rattle.cs_model.specs.declared.value.Field.{Field};
-    ghost use Rattle.cs_model.specs.Packed.{unpacked, Packs};
+    ghost use Rattle.cs_model.specs.{declared.value.Field.{Field}, Packed.{unpacked, Packs}};
 
     ghost Value = { List Field };
 
@@ -125,6 +128,16 @@ impl<'a> ChangeRefs<'a> {
             columns,
             rest: bytes,
         }
+    }
+
+    /// The next change as its bytes.
+    #[inline(always)]
+    pub(crate) fn next_packed(&mut self) -> Option<PackedChange<'a>>
+        ensures { YieldsFirstBy (λ c. c) (λ s. s) self.old result self.new }
+    {
+        let (change, after) = packed_first(self.columns, self.rest)?;
+        self.rest = after;
+        Some(change)
     }
 }
 

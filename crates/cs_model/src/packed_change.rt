@@ -8,7 +8,7 @@ ghost use Rattle.cs_model.specs.PackedChanges.{AreCanonical, change_bytes, unpac
 ghost use Rattle.cs_model.specs.Seen.{change_seen};
 
 use crate::change::Op;
-use crate::change_ref::{ChangeRef, RecordRef, first_of, op_of};
+use crate::change_ref::{ChangeRef, ChangeRefs, RecordRef, first_of, op_of};
 use std::iter::Iterator;
 use std::marker::Model;
 
@@ -82,33 +82,25 @@ fn first_byte(bytes: &[u8]) -> u8
 /// changes.
 #[derive(Drop)]
 pub struct PackedChanges<'a> {
-    columns: usize,
-    rest: &'a [u8],
+    changes: ChangeRefs<'a>,
 }
 
 impl<'a> Model for PackedChanges<'a> {
     ghost use Rattle.std.specs.Prelude.{List};
     ghost use Rattle.cs_model.specs.declared.change.Change.{Change};
-    ghost use Rattle.cs_model.specs.PackedChanges.{unpacked_changes, AreCanonical};
 
     ghost Value = { List Change };
 
-    ghost view = { λ c. unpacked_changes c.columns c.rest.now };
-
-    ghost invariant = { λ c. AreCanonical c.columns c.rest.now };
+    ghost view = { λ c. c.changes };
 }
 
 impl<'a> PackedChanges<'a> {
-    /// The changes of a table with this number of columns, from the first byte on.
+    /// The same changes, as their bytes.
     #[inline(always)]
-    pub(crate) fn of(columns: usize, bytes: &'a [u8]) -> PackedChanges<'a>
-        requires { AreCanonical columns bytes.now }
-        ensures { result ≡ unpacked_changes columns bytes.now }
+    pub(crate) fn of(changes: ChangeRefs<'a>) -> PackedChanges<'a>
+        ensures { result ≡ changes.entry }
     {
-        PackedChanges {
-            columns,
-            rest: bytes,
-        }
+        PackedChanges { changes }
     }
 }
 
@@ -123,15 +115,13 @@ impl<'a> Iterator for PackedChanges<'a> {
 
     #[inline(always)]
     fn next(&mut self) -> Option<PackedChange<'a>> {
-        let (change, after) = packed_first(self.columns, self.rest)?;
-        self.rest = after;
-        Some(change)
+        self.changes.next_packed()
     }
 }
 
-// the first change that `bytes` encodes, and the bytes after it
+/// The first change that `bytes` encodes, and the bytes after it.
 #[inline(always)]
-fn packed_first(columns: usize, bytes: &[u8]) -> Option<(PackedChange, &[u8])>
+pub(crate) fn packed_first(columns: usize, bytes: &[u8]) -> Option<(PackedChange, &[u8])>
     requires { AreCanonical columns bytes.now }
     ensures rest { IfSome result (λ x. AreCanonical columns x.1.now) }
     ensures first { MatchOption result (unpacked_changes columns bytes.now ≡ [])

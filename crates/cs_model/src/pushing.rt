@@ -1,6 +1,6 @@
 //! Appends the bytes of changes to a buffer.
 
-ghost use Rattle.std.specs.Prelude.{◌≡◌, OnOk, OnErr, length, take};
+ghost use Rattle.std.specs.Prelude.{◌≡◌, OnOk, OnErr};
 ghost use Rattle.std.specs.List.{AllByRecursion};
 ghost use Rattle.cs_model.specs.Bytes.{AddsBytes};
 ghost use Rattle.cs_model.specs.Packed.{Fits};
@@ -27,29 +27,13 @@ pub fn fields_push(
     ensures after { OnOk result (AllByRecursion Fits (fields_seen after.now)) }
 {
     let start = out.len();
-    let pushed = add_fields_of(out, op, indirect, before, after);
+    out.extend_from_slice(&[op.byte(), u8::from(indirect)])?;
+    let pushed = match add_fields(out, before) {
+        Ok(()) => add_fields(out, after),
+        Err(error) => Err(error),
+    };
     if pushed.is_err() {
         out.truncate(start);
     }
     pushed
-}
-
-// The same; an `Err` may have appended some.
-fn add_fields_of(
-    out: &mut Vec<u8>,
-    op: Op,
-    indirect: bool,
-    before: &[FieldRef],
-    after: &[FieldRef],
-) -> Result<(), AllocError>
-    ensures ok { AddsBytes result out.old out.new
-        (change_bytes (change_of op indirect (fields_seen before.now) (fields_seen after.now))) }
-    ensures adds { take (length out.old.items) out.new.items ≡ out.old.items }
-    ensures before { OnOk result (AllByRecursion Fits (fields_seen before.now)) }
-    ensures after { OnOk result (AllByRecursion Fits (fields_seen after.now)) }
-{
-    out.push(op.byte())?;
-    out.push(u8::from(indirect))?;
-    add_fields(out, before)?;
-    add_fields(out, after)
 }

@@ -5,11 +5,13 @@ ghost use Rattle.std.specs.List.{AllByRecursion, list_all};
 ghost use Rattle.std.specs.Cmp;
 ghost use Rattle.std.specs.Cmp.{on_per, on_equiv};
 ghost use Rattle.std.specs.Cmp.Lexicographic.{nat_list_eq_equiv};
-ghost use Rattle.cs_model.specs.Packed.{packed, Fits};
-ghost use Rattle.cs_model.specs.Row.{row_fields, values_of};
-ghost use Rattle.cs_model.specs.Rule.{is_defined};
-ghost use Rattle.cs_model.specs.Schema.{same_bytes};
-ghost use Rattle.cs_model.specs.Seen.{field_seen};
+ghost use Rattle.cs_model.specs.{
+  Packed.{packed, Fits},
+  Row.{row_fields, values_of},
+  Rule.{is_defined},
+  Schema.{same_bytes},
+  Seen.{field_seen},
+};
 
 use crate::change_ref::RecordRef;
 use crate::copy::CopyIn;

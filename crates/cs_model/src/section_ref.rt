@@ -91,7 +91,7 @@ impl<'a> SectionRef<'a> {
     pub fn packed_changes(&self) -> PackedChanges<'a>
         ensures { result ≡ self.now.changes }
     {
-        PackedChanges::of(self.flags.len(), self.bytes)
+        PackedChanges::of(self.changes())
     }
 
     /// The canonical bytes of the changes, one after another.

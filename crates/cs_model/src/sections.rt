@@ -3,14 +3,15 @@
 ghost use Rattle.std.specs.Prelude.{◌≡◌, ◌==◌, ◌++◌, ◌∷◌, [], OnOk, OnErr, IfOk, length, take};
 ghost use Rattle.std.specs.Prelude.{IsTrue, MatchOption, None, Some};
 ghost use Rattle.std.specs.List.{AllByRecursion};
-ghost use Rattle.cs_model.specs.Bytes.{AddsBytes};
-ghost use Rattle.cs_model.specs.PackedChanges.{AreCanonical, Fit, change_of, unpacked_changes};
-ghost use Rattle.cs_model.specs.SectionText.{header_text, sections_text};
-ghost use Rattle.cs_model.specs.Section.{Section};
-ghost use Rattle.cs_model.specs.Seen.{fields_seen};
-ghost use Rattle.cs_model.specs.Sections.{EndsWithSection, FitLast, IsPlaceOf, IsText};
-ghost use Rattle.cs_model.specs.Sections.{LastHasColumns, LastIsLong, last_flags, sections_by};
-ghost use Rattle.cs_model.specs.Sections.{with_changes};
+ghost use Rattle.cs_model.specs.{
+  Bytes.{AddsBytes},
+  PackedChanges.{AreCanonical, Fit, change_of, unpacked_changes},
+  SectionText.{header_text, sections_text},
+  Section.{Section},
+  Seen.{fields_seen},
+  Sections.{EndsWithSection, FitLast, IsPlaceOf, IsText, LastHasColumns, LastIsLong},
+  Sections.{last_flags, sections_by, with_changes},
+};
 
 use crate::at::{At, grow_at, grow_last};
 use crate::canonical::text_push;
@@ -100,7 +101,14 @@ impl Sections {
         ensures err { OnErr result (self.new ≡ self.old) }
     {
         self.ats.reserve(1)?;
-        let at = header_push(&mut self.text, shape)?;
+        let start = self.text.len();
+        let at = match add_header(&mut self.text, shape) {
+            Ok(at) => at,
+            Err(error) => {
+                self.text.truncate(start);
+                return Err(error);
+            }
+        };
         self.ats.push_reserved(at);
         Ok(())
     }
@@ -304,21 +312,7 @@ fn append_both(
     added
 }
 
-// Appends a header, and returns where its section stands. An `Err` changes nothing.
-fn header_push(out: &mut Vec<u8>, shape: &ShapeRef) -> Result<At, AllocError>
-    ensures ok { AddsBytes result out.old out.new (header_text shape.now) }
-    ensures at { IfOk result (λ at. IsPlaceOf at (record { shape = shape.now; changes = [] })) }
-    ensures err { OnErr result (out.new.items ≡ out.old.items) }
-{
-    let start = out.len();
-    let pushed = add_header(out, shape);
-    if pushed.is_err() {
-        out.truncate(start);
-    }
-    pushed
-}
-
-// The same; an `Err` may have appended some.
+// Appends a header, and returns where its section stands. An `Err` may have appended some.
 fn add_header(out: &mut Vec<u8>, shape: &ShapeRef) -> Result<At, AllocError>
     ensures ok { AddsBytes result out.old out.new (header_text shape.now) }
     ensures at { IfOk result (λ at. IsPlaceOf at (record { shape = shape.now; changes = [] })) }

@@ -42,9 +42,11 @@ pub struct TextChangeset<'a> {
 
 impl<'a> Model for TextChangeset<'a> {
     ghost use Rattle.std.specs.Prelude.{List};
-    ghost use Rattle.cs_model.specs.Section.{Section};
-    ghost use Rattle.cs_model.specs.Changeset.{IsChangeset};
-    ghost use Rattle.cs_model.specs.TextFront.{sections_of_text};
+    ghost use Rattle.cs_model.specs.{
+      Section.{Section},
+      Changeset.{IsChangeset},
+      TextFront.{sections_of_text},
+    };
 
     ghost Value = { List Section };
 

@@ -2,12 +2,10 @@
 -- followed by the changes of its table. Complete parts are read, and the bytes of an incomplete one
 -- are kept.
 use Rattle.std.specs.Prelude.{◌≡◌, ℕ, zero, suc, ◌+◌, ◌-◌, List, [], ◌∷◌, ◌++◌, length, take}
-use Rattle.std.specs.Prelude.{Option, Some, None, Result, Ok, Err, nat_lt, if◌then◌else◌, refl}
-use Rattle.std.specs.Coded.{Coded, code_by, coded×, coded_list, coded_ℕ, coded_option}
+use Rattle.std.specs.Prelude.{Option, Some, None, Result, Ok, Err, nat_lt, if◌then◌else◌}
 use Rattle.cs_model.specs.Bytes.{AreBytes}
 use Rattle.cs_model.specs.Changeset.{most_bytes}
-use Rattle.cs_model.specs.Section.{Section, section_code}
-use Rattle.cs_parse.specs.contracts.fault.ParseFault as parse_fault
+use Rattle.cs_model.specs.Section.{Section}
 use Rattle.cs_parse.specs.declared.fault.FaultKind.TheVariants.{TooLong, Truncated}
 use Rattle.cs_parse.specs.declared.fault.ParseError.{ParseError}
 use Rattle.cs_parse.specs.declared.fault.ParseError.TheVariants.{Fault, Memory}
@@ -25,16 +23,6 @@ pub record Progress : Type 0 where
   pub pending : List ℕ
   pub offset : ℕ
   pub fault : Option ParseFault
-
--- progress is stored as its parts
-abbrev pub progress_code : Coded Progress
-progress_code =
-    code_by (List Section × (List ℕ × (ℕ × Option ParseFault)))
-    (coded× (coded_list section_code)
-    (coded× (coded_list coded_ℕ) (coded× coded_ℕ (coded_option parse_fault.the_row.coded))))
-    (λ p. (p.sections, (p.pending, (p.offset, p.fault))))
-    (λ p. record { sections = p.0; pending = p.1.0; offset = p.1.1.0; fault = p.1.1.1 })
-    (λ _. refl)
 
 -- before any byte
 abbrev pub nothing : Progress

@@ -31,6 +31,13 @@ pub fn parse_in_place<'a>(alloc: Global, text: &'a [u8]) -> Result<TextChangeset
     // The text determines the result.
     ensures exact { ParseAnswers result (answer_of text.now) }
 {
+    in_place(alloc, text)
+}
+
+// the same, because the text determines the result
+fn in_place<'a>(alloc: Global, text: &'a [u8]) -> Result<TextChangeset<'a>, ParseError>
+    ensures { ParseAnswers result (answer_of text.now) }
+{
     Ok(TextChangeset::of(sections_of(alloc, text)?))
 }
 
@@ -54,6 +61,13 @@ pub fn parse(alloc: Global, text: &[u8]) -> Result<Changeset, ParseError>
     // The text determines the result.
     ensures exact { ParseAnswers result (answer_of text.now) }
 {
-    let changeset = parse_in_place(alloc, text)?;
+    copied(alloc, text)
+}
+
+// the same, because the text determines the result
+fn copied(alloc: Global, text: &[u8]) -> Result<Changeset, ParseError>
+    ensures { ParseAnswers result (answer_of text.now) }
+{
+    let changeset = in_place(alloc, text)?;
     Ok(changeset.into_changeset(alloc)?)
 }

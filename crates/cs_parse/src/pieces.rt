@@ -2,9 +2,7 @@
 
 ghost use Rattle.std.specs.Prelude.{◌≡◌, ◌<◌, ◌≤◌, ◌+◌, [], ◌++◌, length, IfOk, IfErr, IsOk};
 ghost use Rattle.std.specs.Prelude.{IsTrue, OnOk, OnErr, ℕ, List, None, Some, Ok, Err};
-ghost use Rattle.cs_model.specs.Bytes.{AreBytes};
-ghost use Rattle.cs_model.specs.Changeset.{most_bytes};
-ghost use Rattle.cs_model.specs.Text.{Spells};
+ghost use Rattle.cs_model.specs.{Bytes.{AreBytes}, Changeset.{most_bytes}, Text.{Spells}};
 ghost use Rattle.cs_parse.specs.Answer.{Shows};
 ghost use Rattle.cs_parse.specs.Fault.{IsFault};
 ghost use Rattle.cs_parse.specs.Front.{TakesIn};
@@ -52,12 +50,9 @@ impl Model for PieceParser {
     ghost use Rattle.cs_model.specs.Changeset.{most_bytes};
     ghost use Rattle.cs_parse.specs.Front.{KeepsSpot, IsReadOut};
     ghost use Rattle.cs_parse.specs.Lack.{IsPaused};
-    ghost use Rattle.cs_parse.specs.Progress.{last_flags};
-    ghost use Rattle.cs_parse.specs.Progress.{Progress, progress_code};
+    ghost use Rattle.cs_parse.specs.Progress.{Progress, last_flags};
 
     ghost Value = { Progress };
-
-    ghost coded = { progress_code };
 
     ghost view = { λ p. record {
       sections = p.text.0;

@@ -2,16 +2,19 @@
 //! (`count_changes`).
 
 ghost use Rattle.std.specs.Prelude.{◌≡◌, ◌≤◌, List, IfOk, IfErr, Ok, Err, length};
-ghost use Rattle.cs_parse.specs.declared.fault.ParseFault.{ParseFault};
-ghost use Rattle.cs_parse.specs.Fault.{IsFault};
-ghost use Rattle.cs_model.specs.Section.{Section};
-ghost use Rattle.cs_model.specs.Text.{Spells};
-ghost use Rattle.cs_model.specs.Changeset.{most_bytes};
-ghost use Rattle.cs_model.specs.TextFront.{sections_of_text};
-ghost use Rattle.cs_parse.specs.Answer.{ParseAnswers};
-ghost use Rattle.cs_parse.specs.Count.{changes_in, counted_answer, HasChangeCount};
-ghost use Rattle.cs_parse.specs.Reading.{answer_of, fault_of, sections_at, whole_answer};
-ghost use Rattle.cs_parse.specs.Reading.{overlong_answer};
+ghost use Rattle.cs_model.specs.{
+  Changeset.{most_bytes},
+  Section.{Section},
+  Text.{Spells},
+  TextFront.{sections_of_text},
+};
+ghost use Rattle.cs_parse.specs.{
+  declared.fault.ParseFault.{ParseFault},
+  Answer.{ParseAnswers},
+  Count.{changes_in, counted_answer, HasChangeCount},
+  Fault.{IsFault},
+  Reading.{answer_of, fault_of, overlong_answer, sections_at, whole_answer},
+};
 
 use crate::fault::{FaultKind, ParseError, ParseFault};
 use crate::section::{sections_counted, whole_sections};

@@ -3,12 +3,9 @@
 //! shortly than its shortest varint.
 
 ghost use Rattle.std.specs.Prelude.{ℕ, ◌≤◌, List, length};
-ghost use Rattle.cs_model.specs.Bytes.{AreBytes};
-ghost use Rattle.cs_model.specs.Section.{Section};
-ghost use Rattle.cs_model.specs.Changeset.{IsChangeset, most_bytes};
-ghost use Rattle.cs_model.specs.Text.{Spells};
-ghost use Rattle.cs_write.specs.Canon.{canon};
-ghost use Rattle.cs_write.specs.Text.{text_of};
+ghost use Rattle.cs_model.specs.{Bytes.{AreBytes}, Section.{Section}};
+ghost use Rattle.cs_model.specs.{Changeset.{IsChangeset, most_bytes}, Text.{Spells}};
+ghost use Rattle.cs_write.specs.{Canon.{canon}, Text.{text_of}};
 
 use cs_model::laws::{varint_shortest, varint_spelled};
 

@@ -9,8 +9,9 @@ use Rattle.link_lists.specs.declared.lane.Lane.{Lane}
 use Rattle.link_lists.specs.declared.lane.Lane.TheVariants.{First, Second}
 use Rattle.link_lists.specs.declared.link.Link.{Link}
 use Rattle.link_lists.specs.declared.link.Ends.{Ends}
+use Rattle.link_lists.specs.declared.link.Side.{Side}
 use Rattle.link_lists.specs.Nodes.{Strand, Nodes, no_ends, link_under, strand_of, on_lane, link_set, with_ends}
-use Rattle.link_lists.specs.Linking.{CanWrite, with_next, with_previous, next_set, previous_set}
+use Rattle.link_lists.specs.Linking.{CanWrite, link_beside, ends_beside, beside_set}
 
 module _ {T : Type 0} where
   -- what a change of a lane makes of it
@@ -19,48 +20,30 @@ module _ {T : Type 0} where
   strand_on_lane First change nodes = refl
   strand_on_lane Second change nodes = refl
 
-  pub next_written : (lane : Lane) (nodes : Nodes T) (list key : ℕ) (next : Option ℕ) (link : Link) →
+  -- two changes that make the same of a lane
+  on_lane_same : (lane : Lane) (nodes : Nodes T) (one other : Strand → Strand) →
+      one (strand_of lane nodes) ≡ other (strand_of lane nodes) → on_lane lane one nodes ≡ on_lane lane other nodes
+  on_lane_same First nodes one other same = ap (λ strand. record nodes { first = strand }) same
+  on_lane_same Second nodes one other same = ap (λ strand. record nodes { second = strand }) same
+
+  -- one side written in a key's link, and in the ends of a list
+  pub link_written : (lane : Lane) (nodes : Nodes T) (list : ℕ) (side : Side) (key : ℕ) (other : Option ℕ)
+      (link : Link) →
       link_under (strand_of lane nodes) key ≡ Some link →
-      on_lane lane (link_set key (record link { next = next })) nodes ≡ on_lane lane
-      (next_set list (Some key) next) nodes
-  next_written First nodes list key next link found =
-      ap (λ (o : Option Link). on_lane First (λ s. record s { links = set s.links key o }) nodes)
-      (sym (ap (option_map (with_next next)) found))
-  next_written Second nodes list key next link found =
-      ap (λ (o : Option Link). on_lane Second (λ s. record s { links = set s.links key o }) nodes)
-      (sym (ap (option_map (with_next next)) found))
+      on_lane lane (link_set key (link_beside side other link)) nodes ≡ on_lane lane
+      (beside_set side list (Some key) other) nodes
+  link_written lane nodes list side key other link found =
+      on_lane_same lane nodes _ _ (ap (λ (o : Option Link). record (strand_of lane nodes) {
+        links = set (strand_of lane nodes).links key (option_map (link_beside side other) o);
+      }) (sym found))
 
-  pub previous_written : (lane : Lane) (nodes : Nodes T) (list key : ℕ) (previous : Option ℕ) (link : Link) →
-      link_under (strand_of lane nodes) key ≡ Some link →
-      on_lane lane (link_set key (record link { previous = previous })) nodes ≡ on_lane lane
-      (previous_set list (Some key) previous) nodes
-  previous_written First nodes list key previous link found =
-      ap (λ (o : Option Link). on_lane First (λ s. record s { links = set s.links key o }) nodes)
-      (sym (ap (option_map (with_previous previous)) found))
-  previous_written Second nodes list key previous link found =
-      ap (λ (o : Option Link). on_lane Second (λ s. record s { links = set s.links key o }) nodes)
-      (sym (ap (option_map (with_previous previous)) found))
-
-  pub first_written : (lane : Lane) (nodes : Nodes T) (list : ℕ) (next : Option ℕ) (ends : Ends) →
+  pub ends_written : (lane : Lane) (nodes : Nodes T) (list : ℕ) (side : Side) (other : Option ℕ) (ends : Ends) →
       slice_get (strand_of lane nodes).ends list ≡ Some ends →
-      on_lane lane (with_ends list (record ends { first = next })) nodes ≡ on_lane lane (next_set list None next) nodes
-  first_written First nodes list next ends found =
-      ap (λ (e : Ends). on_lane First (with_ends list (record e { first = next })) nodes)
-      (sym (get_or_from_slice_get nodes.first.ends list ends no_ends found))
-  first_written Second nodes list next ends found =
-      ap (λ (e : Ends). on_lane Second (with_ends list (record e { first = next })) nodes)
-      (sym (get_or_from_slice_get nodes.second.ends list ends no_ends found))
-
-  pub last_written : (lane : Lane) (nodes : Nodes T) (list : ℕ) (previous : Option ℕ) (ends : Ends) →
-      slice_get (strand_of lane nodes).ends list ≡ Some ends →
-      on_lane lane (with_ends list (record ends { last = previous })) nodes ≡ on_lane lane
-      (previous_set list None previous) nodes
-  last_written First nodes list previous ends found =
-      ap (λ (e : Ends). on_lane First (with_ends list (record e { last = previous })) nodes)
-      (sym (get_or_from_slice_get nodes.first.ends list ends no_ends found))
-  last_written Second nodes list previous ends found =
-      ap (λ (e : Ends). on_lane Second (with_ends list (record e { last = previous })) nodes)
-      (sym (get_or_from_slice_get nodes.second.ends list ends no_ends found))
+      on_lane lane (with_ends list (ends_beside side other ends)) nodes ≡ on_lane lane
+      (beside_set side list None other) nodes
+  ends_written lane nodes list side other ends found =
+      on_lane_same lane nodes _ _ (ap (λ (e : Ends). with_ends list (ends_beside side other e) (strand_of lane nodes))
+      (sym (get_or_from_slice_get (strand_of lane nodes).ends list ends no_ends found)))
 
 -- a key has something still after something is written at a key that had something
 pub some_set : {A : Type 0} (xs : List (Option A)) (key other : ℕ) (o : Option A) →
@@ -85,12 +68,12 @@ some_mapped : {A B : Type 0} (f : A → B) (o : Option A) → IsSome o → IsSom
 some_mapped f None found = found
 some_mapped f (Some x) found = refl
 
--- and after the next key was
-pub write_after_next : (list : ℕ) (other : Option ℕ) (list' : ℕ) (key next : Option ℕ) (strand : Strand) →
-    CanWrite list other strand → CanWrite list other (next_set list' key next strand)
-write_after_next list None list' None next strand can = rw length-set can
-write_after_next list None list' (Some key) next strand can = can
-write_after_next list (Some other) list' None next strand can = can
-write_after_next list (Some other) list' (Some key) next strand can =
-    some_set strand.links key other (option_map (with_next next) (link_under strand key))
-    (some_mapped (with_next next) (link_under strand key)) can
+-- and after one side was
+pub write_after_side : (side : Side) (list : ℕ) (other : Option ℕ) (list' : ℕ) (key to : Option ℕ) (strand : Strand) →
+    CanWrite list other strand → CanWrite list other (beside_set side list' key to strand)
+write_after_side side list None list' None to strand can = rw length-set can
+write_after_side side list None list' (Some key) to strand can = can
+write_after_side side list (Some other) list' None to strand can = can
+write_after_side side list (Some other) list' (Some key) to strand can =
+    some_set strand.links key other (option_map (link_beside side to) (link_under strand key))
+    (some_mapped (link_beside side to) (link_under strand key)) can

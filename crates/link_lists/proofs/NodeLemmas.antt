@@ -5,12 +5,13 @@ use Rattle.std.specs.Option.{option_map}
 use Rattle.std.proofs.lemmas.List.{get_or_past, map-set, set-get_or}
 use Rattle.std.proofs.lemmas.List.Sums.{length-filter, sum_by-set}
 use Rattle.slab.specs.Slab.{Slab, get, with_value, slab_len, HasRoomFor, Updates}
+use Rattle.link_lists.specs.declared.lane.Lane.{Lane}
 use Rattle.link_lists.specs.declared.lane.Lane.TheVariants.{First, Second}
 use Rattle.link_lists.specs.declared.link.Link.{Link}
 use Rattle.link_lists.specs.declared.link.Ends.{Ends}
 use Rattle.link_lists.specs.declared.link.Node.{Node}
-use Rattle.link_lists.specs.Nodes.{nodes_seen, no_ends, on_lane, link_set, with_slot, without_node, without_nodes}
-use Rattle.link_lists.specs.Nodes.{IsAlike, GainsValue}
+use Rattle.link_lists.specs.Nodes.{Nodes, nodes_seen, no_ends, on_lane, link_set, with_slot, without_node}
+use Rattle.link_lists.specs.Nodes.{without_nodes, IsAlike, GainsValue}
 
 -- two views of the same slots have something at the same keys
 pub both_some : {A B C : Type 0} (f : A → B) (g : A → C) (xs : List (Option A)) (key : ℕ) →
@@ -62,62 +63,56 @@ node_count_seen {A} f xs = sym (length-filter is_some (map (option_map f) xs)) �
     kept (Some x ∷ xs) = ap suc (kept xs)
 
 module _ {T : Type 0} where
+  -- nodes whose parts are the same
+  same_nodes : (one other : Nodes T) → one.slots ≡ other.slots → one.first.links ≡ other.first.links →
+      one.first.ends ≡ other.first.ends → one.second.links ≡ other.second.links →
+      one.second.ends ≡ other.second.ends → one.spare ≡ other.spare → one ≡ other
+  same_nodes one other slots first first_ends second second_ends spare = λ i. record {
+    slots = slots i;
+    first = record { links = first i; ends = first_ends i };
+    second = record { links = second i; ends = second_ends i };
+    spare = spare i;
+  }
+
   pub alike : (slab : Slab (Node T)) (f s : List Ends) → IsAlike (nodes_seen slab f s)
   alike slab f s = record {
     first = both_some (λ n. n.first) (λ n. n.value) slab.slots;
     second = both_some (λ n. n.second) (λ n. n.value) slab.slots;
   }
 
-  pub first_written : (slab : Slab (Node T)) (f s : List Ends) (key : ℕ) (node : Node T) (link : Link) →
-      get slab key ≡ Some node →
-      nodes_seen (with_value slab key (record node { first = link })) f s ≡ on_lane First (link_set key link)
-      (nodes_seen slab f s)
-  first_written slab f s key node link found =
-      let new : Node T = record node { first = link } in
-      let slots = seen_kept (λ n. n.value) slab.slots key node new found refl in
-      let first = map-set (option_map (λ n. n.first)) slab.slots key (Some new) in
-      let second = seen_kept (λ n. n.second) slab.slots key node new found refl in
-      let len = count_kept slab.slots key node new found in
-      λ i. record {
-        slots = slots i;
-        first = record { links = first i; ends = f };
-        second = record { links = second i; ends = s };
-        spare = slab.capacity - len i;
-      }
+  spare_kept : (slab : Slab (Node T)) (key : ℕ) (old new : Node T) → get slab key ≡ Some old →
+      slab.capacity - slab_len (with_value slab key new) ≡ slab.capacity - slab_len slab
+  spare_kept slab key old new found = ap (λ n. slab.capacity - n) (count_kept slab.slots key old new found)
 
-  pub second_written : (slab : Slab (Node T)) (f s : List Ends) (key : ℕ) (node : Node T) (link : Link) →
+  abbrev pub with_link : Lane → Link → Node T → Node T
+  with_link First link node = record node { first = link }
+  with_link Second link node = record node { second = link }
+
+  pub link_written : (lane : Lane) (slab : Slab (Node T)) (f s : List Ends) (key : ℕ) (node : Node T) (link : Link) →
       get slab key ≡ Some node →
-      nodes_seen (with_value slab key (record node { second = link })) f s ≡ on_lane Second (link_set key link)
+      nodes_seen (with_value slab key (with_link lane link node)) f s ≡ on_lane lane (link_set key link)
       (nodes_seen slab f s)
-  second_written slab f s key node link found =
-      let new : Node T = record node { second = link } in
-      let slots = seen_kept (λ n. n.value) slab.slots key node new found refl in
-      let first = seen_kept (λ n. n.first) slab.slots key node new found refl in
-      let second = map-set (option_map (λ n. n.second)) slab.slots key (Some new) in
-      let len = count_kept slab.slots key node new found in
-      λ i. record {
-        slots = slots i;
-        first = record { links = first i; ends = f };
-        second = record { links = second i; ends = s };
-        spare = slab.capacity - len i;
-      }
+  link_written First slab f s key node link found =
+      same_nodes _ _ (seen_kept (λ n. n.value) slab.slots key node _ found refl)
+      (map-set (option_map (λ n. n.first)) slab.slots key _) refl
+      (seen_kept (λ n. n.second) slab.slots key node _ found refl) refl (spare_kept slab key node _ found)
+  link_written Second slab f s key node link found =
+      same_nodes _ _ (seen_kept (λ n. n.value) slab.slots key node _ found refl)
+      (seen_kept (λ n. n.first) slab.slots key node _ found refl) refl
+      (map-set (option_map (λ n. n.second)) slab.slots key _) refl (spare_kept slab key node _ found)
+
+  seen_without : {B : Type 0} (v : Node T → B) (old new : Slab (Node T)) (key : ℕ) →
+      new.slots ≡ set old.slots key None →
+      map (option_map v) new.slots ≡ set (map (option_map v) old.slots) key None
+  seen_without v old new key slots = ap (map (option_map v)) slots ∙ map-set (option_map v) old.slots key None
 
   pub removed : (old new : Slab (Node T)) (f s : List Ends) (key : ℕ) → new.slots ≡ set old.slots key None →
       slab_len new + 1 ≡ slab_len old → HasRoomFor new 1 → new.capacity ≡ old.capacity →
       nodes_seen new f s ≡ without_node key (nodes_seen old f s)
   removed old new f s key slots len room capacity =
-      let seen_slots = ap (map (option_map (λ n. n.value))) slots
-      ∙ map-set (option_map (λ n. n.value)) old.slots key None in
-      let first = ap (map (option_map (λ n. n.first))) slots ∙ map-set (option_map (λ n. n.first)) old.slots key None in
-      let second = ap (map (option_map (λ n. n.second))) slots
-      ∙ map-set (option_map (λ n. n.second)) old.slots key None in
-      let spare : new.capacity - slab_len new ≡ old.capacity - slab_len old + 1 = omega arith in
-      λ i. record {
-        slots = seen_slots i;
-        first = record { links = first i; ends = f };
-        second = record { links = second i; ends = s };
-        spare = spare i;
-      }
+      same_nodes _ _ (seen_without (λ n. n.value) old new key slots)
+      (seen_without (λ n. n.first) old new key slots) refl
+      (seen_without (λ n. n.second) old new key slots) refl (omega arith)
 
   seen_others : {B : Type 0} (v : Node T → B) (old new : Slab (Node T)) (key : ℕ) →
       ((other : ℕ) → other ≢ key → get new other ≡ get old other) →
@@ -143,16 +138,9 @@ module _ {T : Type 0} where
       nodes_seen (with_value slab key (record node { value = value })) f s ≡ with_slot (nodes_seen slab f s) key value
   value_written slab f s key node value found =
       let new : Node T = record node { value = value } in
-      let slots = map-set (option_map (λ n. n.value)) slab.slots key (Some new) in
-      let first = seen_kept (λ n. n.first) slab.slots key node new found refl in
-      let second = seen_kept (λ n. n.second) slab.slots key node new found refl in
-      let len = count_kept slab.slots key node new found in
-      λ i. record {
-        slots = slots i;
-        first = record { links = first i; ends = f };
-        second = record { links = second i; ends = s };
-        spare = slab.capacity - len i;
-      }
+      same_nodes _ _ (map-set (option_map (λ n. n.value)) slab.slots key (Some new))
+      (seen_kept (λ n. n.first) slab.slots key node new found refl) refl
+      (seen_kept (λ n. n.second) slab.slots key node new found refl) refl (spare_kept slab key node new found)
 
   pub value_seen : (slab : Slab (Node T)) (key : ℕ) (node : Node T) → get slab key ≡ Some node →
       get_or (map (option_map (λ n. n.value)) slab.slots) key None ≡ Some node.value
@@ -167,9 +155,6 @@ module _ {T : Type 0} where
       let spare : new.capacity - slab_len new
       ≡ old.capacity - slab_len old + count_by is_some (map (option_map (λ (n : Node T). n.value)) old.slots) =
       omega (arith, none, seen) in
-      λ i. record {
-        slots = map (option_map (λ n. n.value)) (slots i);
-        first = record { links = map (option_map (λ n. n.first)) (slots i); ends = first i };
-        second = record { links = map (option_map (λ n. n.second)) (slots i); ends = second i };
-        spare = spare i;
-      }
+      same_nodes _ _ (ap (map (option_map (λ n. n.value))) slots)
+      (ap (map (option_map (λ n. n.first))) slots) first
+      (ap (map (option_map (λ n. n.second))) slots) second spare

@@ -1,9 +1,8 @@
 -- Lanes: values under keys, and two lanes of lists of these keys.
 use Rattle.std.specs.Prelude.{◌≡◌, ◌≢◌, ℕ, nat_eq, not, IsTrue, IsSome, List, [], ◌∷◌, ◌++◌, map}
 use Rattle.std.specs.Prelude.{filter, Option, Some, None, slice_get, slice_index_or, slice_set}
-use Rattle.std.specs.Prelude.{count_by, is_some, if◌then◌else◌, refl}
+use Rattle.std.specs.Prelude.{count_by, is_some, if◌then◌else◌}
 use Rattle.std.specs.List.{flat_map, list_any, IsDistinct}
-use Rattle.std.specs.Coded.{Coded, code_by, coded×, coded_ℕ, coded_list, coded_option}
 use Rattle.link_lists.specs.declared.lane.Lane.{Lane}
 use Rattle.link_lists.specs.declared.lane.Lane.TheVariants.{First, Second}
 
@@ -14,16 +13,6 @@ pub record Lanes (T : Type 0) : Type 0 where
   pub first : List (List ℕ)
   pub second : List (List ℕ)
   pub spare : ℕ
-
--- lanes are stored as their parts
-abbrev pub lanes_code : {T : Type 0} → Coded T → Coded (Lanes T)
-lanes_code {T} code =
-    code_by (List (Option T) × (List (List ℕ) × (List (List ℕ) × ℕ)))
-    (coded× (coded_list (coded_option code))
-    (coded× (coded_list (coded_list coded_ℕ)) (coded× (coded_list (coded_list coded_ℕ)) coded_ℕ)))
-    (λ l. (l.slots, (l.first, (l.second, l.spare))))
-    (λ p. record { slots = p.0; first = p.1.0; second = p.1.1.0; spare = p.1.1.1 })
-    (λ _. refl)
 
 -- all keys of a lane, list by list
 abbrev pub lane_keys : List (List ℕ) → List ℕ

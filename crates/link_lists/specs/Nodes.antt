@@ -1,15 +1,12 @@
 -- Nodes as their links say, and the steps that change links. No public clause cites this module.
 use Rattle.std.specs.Prelude.{◌≡◌, ◌≢◌, ℕ, ◌+◌, ◌-◌, map, List, [], ◌∷◌, ◌++◌, Option, Some, None}
-use Rattle.std.specs.Prelude.{count_by, is_some, option_map, slice_index_or, slice_set, refl}
-use Rattle.std.specs.Coded.{Coded, code_by, coded×, coded_ℕ, coded_list, coded_option}
+use Rattle.std.specs.Prelude.{count_by, is_some, option_map, slice_index_or, slice_set}
 use Rattle.slab.specs.Slab.{Slab, slab_len}
 use Rattle.link_lists.specs.declared.lane.Lane.{Lane}
 use Rattle.link_lists.specs.declared.lane.Lane.TheVariants.{First, Second}
 use Rattle.link_lists.specs.declared.link.Link.{Link}
 use Rattle.link_lists.specs.declared.link.Ends.{Ends}
 use Rattle.link_lists.specs.declared.link.Node.{Node}
-use Rattle.link_lists.specs.contracts.link.Link as link_type
-use Rattle.link_lists.specs.contracts.link.Ends as ends_type
 
 -- a lane as it is kept: the link under each key, and the ends of each list
 pub record Strand : Type 0 where
@@ -22,23 +19,6 @@ pub record Nodes (T : Type 0) : Type 0 where
   pub first : Strand
   pub second : Strand
   pub spare : ℕ
-
--- a strand is stored as its parts
-abbrev pub strand_code : Coded Strand
-strand_code =
-    code_by (List (Option Link) × List Ends)
-    (coded× (coded_list (coded_option link_type.the_row.coded))
-    (coded_list ends_type.the_row.coded))
-    (λ s. (s.links, s.ends)) (λ p. record { links = p.0; ends = p.1 }) (λ _. refl)
-
--- nodes are stored as their parts
-abbrev pub nodes_code : {T : Type 0} → Coded T → Coded (Nodes T)
-nodes_code {T} code =
-    code_by (List (Option T) × (Strand × (Strand × ℕ)))
-    (coded× (coded_list (coded_option code)) (coded× strand_code (coded× strand_code coded_ℕ)))
-    (λ n. (n.slots, (n.first, (n.second, n.spare))))
-    (λ p. record { slots = p.0; first = p.1.0; second = p.1.1.0; spare = p.1.1.1 })
-    (λ _. refl)
 
 -- a strand of no key and no list
 abbrev pub no_strand : Strand

@@ -1,5 +1,15 @@
 //! What a node of the slab has beside its value: its place in a list of each lane.
 
+ghost use Rattle.std.specs.Prelude.{◌≡◌};
+ghost use Rattle.link_lists.specs.Linking.{link_beside, ends_beside};
+
+/// A side of a key in its list.
+#[derive(Clone, Copy, Debug, Drop)]
+pub(crate) enum Side {
+    Next,
+    Previous,
+}
+
 /// A key's place in a lane. It says nothing while the key stands in no list of the lane.
 #[derive(Clone, Copy, Debug, Drop)]
 pub(crate) struct Link {
@@ -13,6 +23,33 @@ pub(crate) struct Link {
 pub(crate) struct Ends {
     pub(crate) first: Option<usize>,
     pub(crate) last: Option<usize>,
+}
+
+impl Link {
+    /// The link with another key on this side.
+    pub(crate) fn beside(self, side: Side, key: Option<usize>) -> Link
+        ensures { result ≡ link_beside side key self }
+    {
+        match side {
+            Side::Next => Link { next: key, ..self },
+            Side::Previous => Link {
+                previous: key,
+                ..self
+            },
+        }
+    }
+}
+
+impl Ends {
+    /// The ends with another first key, where the side is the next one, or with another last key.
+    pub(crate) fn beside(self, side: Side, key: Option<usize>) -> Ends
+        ensures { result ≡ ends_beside side key self }
+    {
+        match side {
+            Side::Next => Ends { first: key, ..self },
+            Side::Previous => Ends { last: key, ..self },
+        }
+    }
 }
 
 /// A record of the slab.

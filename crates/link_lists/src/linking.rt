@@ -2,69 +2,34 @@
 
 ghost use Rattle.std.specs.Prelude.{◌≡◌, IsSome, None};
 ghost use Rattle.link_lists.specs.Nodes.{strand_of, link_under, on_lane};
-ghost use Rattle.link_lists.specs.Linking.{next_set, previous_set, keys_tied, key_placed, CanWrite};
+ghost use Rattle.link_lists.specs.Linking.{beside_set, keys_tied, key_placed, CanWrite};
 
 use crate::lane::Lane;
-use crate::link::{Ends, Link};
+use crate::link::{Link, Side};
 use crate::nodes::Nodes;
 
 impl<T> Nodes<T> {
-    /// Writes what comes after a key of this list, or what comes first in it.
-    pub(crate) fn set_next(
+    /// Writes what is on this side of a key of the list. Without a key it writes what comes first
+    /// in the list, or last.
+    pub(crate) fn set_beside(
         &mut self,
         lane: Lane,
         list: usize,
+        side: Side,
         key: Option<usize>,
-        next: Option<usize>,
+        other: Option<usize>,
     )
         requires { CanWrite list key (strand_of lane self.old) }
-        ensures { self.new ≡ on_lane lane (next_set list key next) self.old }
+        ensures { self.new ≡ on_lane lane (beside_set side list key other) self.old }
     {
         match key {
             Some(key) => {
-                let link = self.link(lane, key);
-                self.set_link(lane, key, Link { next, ..link });
+                let link = self.link(lane, key).beside(side, other);
+                self.set_link(lane, key, link);
             }
             None => {
-                let ends = self.ends(lane, list);
-                self.set_ends(
-                    lane,
-                    list,
-                    Ends {
-                        first: next,
-                        ..ends
-                    },
-                );
-            }
-        }
-    }
-
-    /// Writes what comes before a key of this list, or what comes last in it.
-    pub(crate) fn set_previous(
-        &mut self,
-        lane: Lane,
-        list: usize,
-        key: Option<usize>,
-        previous: Option<usize>,
-    )
-        requires { CanWrite list key (strand_of lane self.old) }
-        ensures { self.new ≡ on_lane lane (previous_set list key previous) self.old }
-    {
-        match key {
-            Some(key) => {
-                let link = self.link(lane, key);
-                self.set_link(lane, key, Link { previous, ..link });
-            }
-            None => {
-                let ends = self.ends(lane, list);
-                self.set_ends(
-                    lane,
-                    list,
-                    Ends {
-                        last: previous,
-                        ..ends
-                    },
-                );
+                let ends = self.ends(lane, list).beside(side, other);
+                self.set_ends(lane, list, ends);
             }
         }
     }
@@ -81,8 +46,8 @@ impl<T> Nodes<T> {
         requires after { CanWrite list next (strand_of lane self.old) }
         ensures { self.new ≡ on_lane lane (keys_tied list previous next) self.old }
     {
-        self.set_next(lane, list, previous, next);
-        self.set_previous(lane, list, next, previous);
+        self.set_beside(lane, list, Side::Next, previous, next);
+        self.set_beside(lane, list, Side::Previous, next, previous);
     }
 
     /// Puts the key between `previous` and `next` in this list.
@@ -93,7 +58,7 @@ impl<T> Nodes<T> {
         ensures { self.new ≡ on_lane lane (key_placed key link) self.old }
     {
         self.set_link(lane, key, link);
-        self.set_next(lane, link.list, link.previous, Some(key));
-        self.set_previous(lane, link.list, link.next, Some(key));
+        self.set_beside(lane, link.list, Side::Next, link.previous, Some(key));
+        self.set_beside(lane, link.list, Side::Previous, link.next, Some(key));
     }
 }

@@ -23,11 +23,9 @@ pub(crate) struct Nodes<T> {
 }
 
 impl<T> Model for Nodes<T> {
-    ghost use Rattle.link_lists.specs.Nodes.{Nodes, nodes_code, nodes_seen};
+    ghost use Rattle.link_lists.specs.Nodes.{Nodes, nodes_seen};
 
     ghost Value = { Nodes T };
-
-    ghost coded = { nodes_code T.code };
 
     ghost view = { λ n. nodes_seen n.nodes n.first.items n.second.items };
 }

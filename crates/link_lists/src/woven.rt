@@ -23,12 +23,10 @@ pub struct Woven<T> {
 }
 
 impl<T> Model for Woven<T> {
-    ghost use Rattle.link_lists.specs.Lanes.{Lanes, lanes_code};
+    ghost use Rattle.link_lists.specs.Lanes.{Lanes};
     ghost use Rattle.link_lists.specs.Spelling.{lanes_seen, BothSpelled};
 
     ghost Value = { Lanes T };
-
-    ghost coded = { lanes_code T.code };
 
     ghost view = { λ w. lanes_seen w.nodes };
 

@@ -1,13 +1,10 @@
 //! A durable store of rows and a cursor, and a plan that is committed to it and to tables.
 
-ghost use Rattle.std.specs.Prelude.{◌≡◌, ℕ, OnOk, IfErr, IfOk, OnErr};
-ghost use Rattle.std.specs.List.{IsDistinct};
+ghost use Rattle.std.specs.{Prelude.{◌≡◌, ℕ, OnOk, IfErr, IfOk, OnErr}, List.{IsDistinct}};
 ghost use Rattle.std.specs.Map.{keys_of};
-ghost use Rattle.cs_apply.specs.SameKey.{same_key};
-ghost use Rattle.cs_apply.specs.State.{Rows};
+ghost use Rattle.cs_apply.specs.{SameKey.{same_key}, State.{Rows}};
 ghost use Rattle.par_apply.specs.Durable.{IfRefused, IfNotAsked, changed_tables};
-ghost use Rattle.par_apply.specs.Planned.{RowsFit, planned_changes};
-ghost use Rattle.par_apply.specs.RowChanges.{overlaid};
+ghost use Rattle.par_apply.specs.{Planned.{RowsFit, planned_changes}, RowChanges.{overlaid}};
 
 use crate::planned::{RowChange, RowPlan};
 use crate::staged::stage;
@@ -17,11 +14,8 @@ use std::alloc::{AllocError, Global};
 
 /// A store that keeps the rows of tables and a cursor together over a crash.
 pub trait DurableRows {
-    ghost use Rattle.std.specs.Prelude.{◌≡◌, ℕ, OnOk};
-    ghost use Rattle.std.specs.List.{IsDistinct};
-    ghost use Rattle.std.specs.Map.{keys_of};
-    ghost use Rattle.cs_apply.specs.SameKey.{same_key};
-    ghost use Rattle.cs_apply.specs.State.{Rows};
+    ghost use Rattle.std.specs.{Prelude.{◌≡◌, ℕ, OnOk}, List.{IsDistinct}, Map.{keys_of}};
+    ghost use Rattle.cs_apply.specs.{SameKey.{same_key}, State.{Rows}};
     ghost use Rattle.par_apply.specs.RowChanges.{overlaid};
 
     /// The store has these rows with this cursor, and a crash leaves them.

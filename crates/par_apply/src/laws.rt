@@ -1,22 +1,16 @@
 //! Laws: public functions that do nothing. Their contracts state what holds of all tables,
 //! changesets and shards; a caller that needs one calls it.
 
-ghost use Rattle.std.specs.Prelude.{◌≡◌, ◌≤◌, ℕ, List, Ok, Err};
-ghost use Rattle.std.specs.List.{IsDistinct};
-ghost use Rattle.std.specs.Map.{keys_of};
+ghost use Rattle.std.specs.{Prelude.{◌≡◌, ◌≤◌, ℕ, List, Ok, Err}, List.{IsDistinct}, Map.{keys_of}};
 ghost use Rattle.cs_apply.specs.SameKey.{same_key};
 ghost use Rattle.cs_apply.specs.declared.conflict.Conflict.{Conflict as Conflicts};
-ghost use Rattle.cs_apply.specs.Single.{changes_of, single, single_from};
-ghost use Rattle.cs_apply.specs.State.{TableState};
-ghost use Rattle.cs_model.specs.declared.row_key.RowKey.{RowKey};
-ghost use Rattle.cs_model.specs.Section.{Section};
-ghost use Rattle.par_apply.specs.Durable.{changed_tables};
-ghost use Rattle.par_apply.specs.Parts.{applied_part};
-ghost use Rattle.par_apply.specs.Planned.{IsPlanOf, RowsFit};
-ghost use Rattle.par_apply.specs.RowChanges.{RowChanges, overlaid};
+ghost use Rattle.cs_apply.specs.{Single.{changes_of, single, single_from}, State.{TableState}};
+ghost use Rattle.cs_model.specs.{declared.row_key.RowKey.{RowKey}, Section.{Section}};
+ghost use Rattle.par_apply.specs.{Durable.{changed_tables}, Parts.{applied_part}};
+ghost use Rattle.par_apply.specs.{Planned.{IsPlanOf, RowsFit}, RowChanges.{RowChanges, overlaid}};
 ghost use Rattle.par_apply.specs.Shards.{of_shard};
-ghost use Rattle.par_apply.specs.Splitting.{AreAllShards, AreOfShard, SplitsInto};
-ghost use Rattle.par_apply.specs.Splitting.{joined_parts, list_at};
+ghost use Rattle.par_apply.specs.Splitting.{AreAllShards, AreOfShard, SplitsInto, joined_parts};
+ghost use Rattle.par_apply.specs.Splitting.{list_at};
 
 /// The splitting law: changes are split by their keys, in any way. If no shard's changes conflict,
 /// each key has the row that its shard's changes give it. If some conflict, the first conflict is

@@ -3,8 +3,7 @@
 ghost use Rattle.std.specs.Prelude.{◌≡◌, ◌<◌, ◌≤◌, ◌+◌, ◌%◌, ◌^◌, ◌++◌, ◌∷◌, [], ℕ, IfOk, length};
 ghost use Rattle.std.specs.Prelude.{List, OnOk, if◌then◌else◌, map, slice_index_or, sum, vec_len};
 ghost use Rattle.cs_apply.specs.Single.{changes_of};
-ghost use Rattle.cs_model.specs.Key.{key_of};
-ghost use Rattle.cs_model.specs.KeyBytes.{key_bytes, key_record};
+ghost use Rattle.cs_model.specs.{Key.{key_of}, KeyBytes.{key_bytes, key_record}};
 ghost use Rattle.cs_model.specs.Seen.{change_seen};
 ghost use Rattle.par_apply.specs.Shards.{of_shard, section_positions, shard_number};
 ghost use Rattle.par_apply.specs.Shards.{taken_positions};

@@ -1,7 +1,8 @@
 //! `StagedPlan`: a plan whose keys all have places, so that it can be committed without allocation.
 
-ghost use Rattle.std.specs.Prelude.{◌≡◌, [], List, Option, Some, slice_get};
-ghost use Rattle.std.specs.Prelude.{IfOk, IfErr, OnOk, OnErr};
+ghost use Rattle.std.specs.Prelude.{◌≡◌, ◌<◌, ◌++◌, ◌∷◌, [], List, Option, Some, IfOk, IfErr, OnOk};
+ghost use Rattle.std.specs.Prelude.{OnErr, if◌then◌else◌, slice_get, vec_len};
+ghost use Rattle.std.specs.Vec.{vec_capacity};
 ghost use Rattle.cs_apply.specs.Held.{CanHoldRow, KeyHasPlace};
 ghost use Rattle.cs_model.specs.declared.row_key.RowKey.{RowKey as Key};
 ghost use Rattle.cs_model.specs.declared.value.Value.{Value};
@@ -145,10 +146,19 @@ fn hold(
 {
     made.reserve(1)?;
     let own = key.copy_in(alloc)?;
-    if tables.hold(own)? {
+    let is_new = tables.hold(own)?;
+    note(made, index, is_new);
+    Ok(())
+}
+
+// Notes the index of a change, if its place is new. Does not allocate.
+fn note(made: &mut Vec<usize>, index: usize, is_new: bool)
+    requires { vec_len made.old < vec_capacity made.old }
+    ensures { made.new.items ≡ made.old.items ++ (if is_new then index ∷ [] else []) }
+{
+    if is_new {
         made.push_reserved(index);
     }
-    Ok(())
 }
 
 // Takes out the keys of the changes at these indices, from the last on. Does not allocate.

@@ -86,6 +86,32 @@ holds_on cells old new more closing before after keeps counted h =
       made = ap (λ (r : RegisterState). r.made) counted ∙ h.made ∙ sym keeps.frame.count;
     }
 
+-- the same with what the calls leave alone: the ghost fields of *Locked*
+abbrev pub LockHolds : Cells → JournaledPicture → Cells → Option LastToken → ℕ → RegisterState → Type 0
+LockHolds cells desk filler closing parts register = record {
+  fits : desk.picture.limits.capacity ≡ cells.capacity;
+  fills : filler ≡ cells;
+  closes : ShowsClosing cells desk.picture.closing closing;
+  all : parts ≡ 1024;
+  total : register.total ≡ counted_steps is_own desk.steps;
+  made : register.made ≡ length desk.picture.subscriptions;
+}
+
+-- a subscription's own step, which the register counts
+pub own_step_holds : {cells filler : Cells} {new : JournaledPicture} {next : Picture} {parts : ℕ}
+    {before after : RegisterState} (old : JournaledPicture) (step : Step) (closing : Option LastToken) → CountsOwn
+    → KeepsFrame old.picture next → new ≡ journaled old step next
+    → after ≡ record before { total = before.total + cond (is_own step) 1 0 }
+    → old.picture.limits.capacity ≡ cells.capacity → filler ≡ cells → ShowsClosing cells old.picture.closing closing
+    → parts ≡ 1024 → before.total ≡ counted_steps is_own old.steps → before.made ≡ length old.picture.subscriptions
+    → LockHolds cells new filler closing parts after
+own_step_holds {cells} {filler} {new} {next} {parts} {before} {after} old step closing counts frame is counted fits fills
+    closes all total made =
+    let keeps = step_keeps old new step next counts frame is in
+    let k = holds_on cells old new _ closing before after keeps counted
+    (record { fits = fits; closes = closes; total = total; made = made }) in
+    record { fits = k.fits; fills = fills; closes = k.closes; all = all; total = k.total; made = k.made }
+
 -- so it does where the desk adds none
 pub holds_still : (cells : Cells) (old new : JournaledPicture) (more : ℕ) (closing : Option LastToken)
     (register : RegisterState) → LockKeeps old new more → more ≡ 0

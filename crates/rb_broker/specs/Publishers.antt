@@ -1,18 +1,14 @@
 -- A publisher of a broker, and what it stages.
-use Rattle.std.specs.Prelude.{◌≡◌, ◌<◌, ℕ, suc, List, [], Option, Some, None, Result, Ok, Err, refl}
-use Rattle.std.specs.Coded.{Coded, code_by, coded×, coded_list, coded_option, coded_ℕ}
-use Rattle.cs_model.specs.contracts.origin.Origin as origin
-use Rattle.cs_model.specs.contracts.shape.Shape as shape
+use Rattle.std.specs.Prelude.{◌≡◌, ◌<◌, ℕ, suc, List, [], Option, Some, None, Result, Ok, Err}
 use Rattle.cs_model.specs.declared.origin.Origin.{Origin}
 use Rattle.cs_model.specs.declared.origin.Origin.TheVariants.{Sent, Withdraws}
 use Rattle.cs_model.specs.declared.shape.Shape.{Shape}
-use Rattle.cs_model.specs.Section.{Section, section_code}
+use Rattle.cs_model.specs.Section.{Section}
 use Rattle.cs_invert.specs.Inverse.{withdrawal_of}
-use Rattle.cs_parse.specs.Progress.{Progress, nothing, progress_code}
+use Rattle.cs_parse.specs.Progress.{Progress, nothing}
 use Rattle.rb_broker.specs.declared.refusal.AddRefusal.{AddRefusal}
 use Rattle.rb_broker.specs.declared.refusal.AddRefusal.TheVariants.{TooMany, Memory}
-use Rattle.rb_sequence.specs.Cells.{Cells, CellToken, IsTokenOf, token_code}
-use Rattle.rb_sequence.specs.contracts.item.Item as item
+use Rattle.rb_sequence.specs.Cells.{Cells, CellToken, IsTokenOf}
 use Rattle.rb_sequence.specs.declared.item.Item.{Item}
 
 -- A publisher: its number, the tables of its broker, its stream, what it sent, in order, and the
@@ -59,31 +55,3 @@ MakesPublisher schema (Err Memory) old new = (old < 64) × (new ≡ old)
 abbrev pub item_of : StagedView → ℕ → Item
 item_of s own =
     record { publisher = s.publisher; own = own; origin = s.origin; body = s.body }
-
--- they are stored as their parts
-abbrev pub publisher_code : Coded PublisherView
-publisher_code = code_by (ℕ × (List Shape × (Progress × (List Item × List ℕ))))
-    (coded× coded_ℕ (coded× (coded_list shape.the_row.coded) (coded× progress_code
-    (coded× (coded_list item.the_row.coded) (coded_list coded_ℕ)))))
-    (λ p. (p.number, (p.schema, (p.stream, (p.sent, p.withdrawn)))))
-    (λ p. record {
-      number = p.0;
-      schema = p.1.0;
-      stream = p.1.1.0;
-      sent = p.1.1.1.0;
-      withdrawn = p.1.1.1.1;
-    })
-    (λ _. refl)
-
-abbrev pub staged_code : Coded StagedView
-staged_code = code_by (ℕ × (Origin × (List Section × Option CellToken)))
-    (coded× coded_ℕ (coded× origin.the_row.coded
-    (coded× (coded_list section_code) (coded_option token_code))))
-    (λ s. (s.publisher, (s.origin, (s.body, s.withdraws))))
-    (λ p. record {
-      publisher = p.0;
-      origin = p.1.0;
-      body = p.1.1.0;
-      withdraws = p.1.1.1;
-    })
-    (λ _. refl)

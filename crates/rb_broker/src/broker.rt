@@ -1,12 +1,9 @@
 //! `Broker`: what all threads share. Its lock holds the desk.
 
-ghost use Rattle.std.specs.Prelude.{◌≡◌, ◌++◌, ◌∷◌, [], ℕ, suc, length, IfOk, IfErr, OnOk};
-ghost use Rattle.std.specs.Prelude.{OnErr};
-ghost use Rattle.std.specs.Prelude.{IfSome, MatchOption};
-ghost use Rattle.std.specs.Arc.{arc_value};
+ghost use Rattle.std.specs.Prelude.{◌≡◌, ◌++◌, ◌∷◌, [], ℕ, suc, length, IfErr, IfOk, IfSome};
+ghost use Rattle.std.specs.{Arc.{arc_value}, Prelude.{MatchOption, OnErr, OnOk}};
 ghost use Rattle.rb_intake.specs.Passes.{IsAllPulled};
-ghost use Rattle.rb_sequence.specs.Items.{CountsUp};
-ghost use Rattle.rb_sequence.specs.Cells.{IsLastToken};
+ghost use Rattle.rb_sequence.specs.{Cells.{IsLastToken}, Items.{CountsUp}};
 ghost use Rattle.rb_broker.specs.Placing.{DeskRefuses, ShowsEntry, ShowsWhy};
 
 use crate::hall::Hall;

@@ -32,12 +32,10 @@ pub struct Opened {
 impl Model for Opened {
     ghost use Rattle.std.specs.Prelude.{◌≡◌, []};
     ghost use Rattle.std.specs.Arc.{arc_value};
-    ghost use Rattle.rb_broker.specs.Halls.{OpenedParts, opened_code};
+    ghost use Rattle.rb_broker.specs.Halls.{OpenedParts};
     ghost use Rattle.rb_desk.specs.Picture.{empty_picture};
 
     ghost Value = { OpenedParts };
-
-    ghost coded = { opened_code };
 
     ghost view = { λ o. record {
       limits = o.config;

@@ -37,11 +37,9 @@ pub struct Publisher<L: Hall> {
 impl<L: Hall> Model for Publisher<L> {
     ghost use Rattle.std.specs.Prelude.{◌≡◌};
     ghost use Rattle.std.specs.Arc.{arc_value};
-    ghost use Rattle.rb_broker.specs.Publishers.{PublisherView, publisher_code};
+    ghost use Rattle.rb_broker.specs.Publishers.{PublisherView};
 
     ghost Value = { PublisherView };
-
-    ghost coded = { publisher_code };
 
     ghost view = { λ p. record {
       number = p.pass.publisher;

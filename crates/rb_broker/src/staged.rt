@@ -22,11 +22,9 @@ pub struct StagedSet<L: Hall> {
 }
 
 impl<L: Hall> Model for StagedSet<L> {
-    ghost use Rattle.rb_broker.specs.Publishers.{StagedView, WithdrawsShown, staged_code};
+    ghost use Rattle.rb_broker.specs.Publishers.{StagedView, WithdrawsShown};
 
     ghost Value = { StagedView };
-
-    ghost coded = { staged_code };
 
     ghost view = { λ s. record {
       publisher = s.publisher;

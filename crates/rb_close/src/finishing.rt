@@ -1,8 +1,7 @@
 //! `finish`: the end of a broker, when its threads have ended.
 
 ghost use Rattle.std.specs.Prelude.{◌≡◌, ◌+◌, ◌<◌, ◌≤◌, ℕ, [], length, IfErr, IfNone, IfOk, IfSome};
-ghost use Rattle.std.specs.Bool.{Decides};
-ghost use Rattle.std.specs.Prelude.{vec_capacity};
+ghost use Rattle.std.specs.{Bool.{Decides}, Prelude.{vec_capacity}};
 ghost use Rattle.rb_close.specs.Finishing.{AreAllPresent, Finishes, IsPresent, JoinsPasses};
 ghost use Rattle.rb_close.specs.Finishing.{RefusesFinish, all_sent};
 ghost use Rattle.rb_sequence.specs.Cells.{IsLastToken};

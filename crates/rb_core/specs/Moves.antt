@@ -13,7 +13,7 @@ use Rattle.rb_sequence.specs.declared.item.Item.{Item}
 use Rattle.rb_sequence.specs.Entry.{Entry}
 use Rattle.rb_subscriber.specs.Accept.{part, brought, AcceptsDelivery}
 use Rattle.rb_subscriber.specs.Endpoint.{Endpoint}
-use Rattle.rb_core.specs.World.{Sender, Subscriber, World, endpoint_of}
+use Rattle.rb_core.specs.World.{Sender, Subscriber, World, endpoint_of, subscriber_begun}
 
 abbrev pub with_sender : World → ℕ → Sender → World
 with_sender old p sender = record old { senders = slice_set old.senders p sender }
@@ -132,17 +132,7 @@ pub record Subscribes (old new : World) : Type 0 where
   pub new_link : IsNew old.links link
   pub kept : new ≡ record old {
     links = link ∷ old.links;
-    subscribers = old.subscribers
-        ++ record {
-          start = start;
-          base = base;
-          accepted = [];
-          tables = base;
-          link = link;
-          closed = false;
-          fallen = false;
-          deliveries = [];
-        } ∷ [];
+    subscribers = old.subscribers ++ subscriber_begun start link base ∷ [];
   }
 
 -- numbers that are placed are delivered to a subscription, under its current link, as a delivery
@@ -160,8 +150,8 @@ pub record Delivers (old new : World) : Type 0 where
   pub kept : new ≡ with_subscriber old s
       (record subscriber { deliveries = subscriber.deliveries ++ delivery ∷ [] })
 
--- a subscription accepts a delivery that was made to it, as its endpoint does
-pub record Accepts (old new : World) : Type 0 where
+-- a delivery that was made to a subscription, and its endpoint once it has accepted the delivery
+pub record Acceptance (old : World) : Type 0 where
   pub s : ℕ
   pub subscriber : Subscriber
   pub delivery : Delivery
@@ -169,32 +159,26 @@ pub record Accepts (old new : World) : Type 0 where
   pub found : slice_get old.subscribers s ≡ Some subscriber
   pub offered : IsIn delivery subscriber.deliveries
   pub accepts : AcceptsDelivery (endpoint_of subscriber) old.sequence delivery end
-  pub kept : new ≡ with_subscriber old s
-      (record subscriber {
-        accepted = subscriber.accepted
-            ++ brought old.sequence delivery;
-        tables = end.tables;
-      })
+
+-- the subscription then: it has the delivery's entries, and the endpoint's tables
+abbrev pub after_acceptance : (old : World) → Acceptance old → Subscriber
+after_acceptance old made = record made.subscriber {
+  accepted = made.subscriber.accepted ++ brought old.sequence made.delivery;
+  tables = made.end.tables;
+}
+
+-- a subscription accepts a delivery that was made to it, as its endpoint does
+pub record Accepts (old new : World) : Type 0 where
+  pub made : Acceptance old
+  pub kept : new ≡ with_subscriber old made.s (after_acceptance old made)
 
 -- A subscription falls while it accepts a delivery that was made to it, and that its endpoint would
 -- accept. What it accepted and its tables are as before the accept or as after it, both together.
 -- It has fallen.
 pub record Crashes (old new : World) : Type 0 where
-  pub s : ℕ
-  pub subscriber : Subscriber
-  pub delivery : Delivery
-  pub end : Endpoint
-  pub found : slice_get old.subscribers s ≡ Some subscriber
-  pub offered : IsIn delivery subscriber.deliveries
-  pub would_accept : AcceptsDelivery (endpoint_of subscriber) old.sequence delivery end
-  pub kept : (new ≡ with_subscriber old s (record subscriber { fallen = true }))
-      ⊎ (new ≡ with_subscriber old s
-      (record subscriber {
-        accepted = subscriber.accepted
-            ++ brought old.sequence delivery;
-        tables = end.tables;
-        fallen = true;
-      }))
+  pub made : Acceptance old
+  pub kept : (new ≡ with_subscriber old made.s (record made.subscriber { fallen = true }))
+      ⊎ (new ≡ with_subscriber old made.s (record (after_acceptance old made) { fallen = true }))
 
 -- a subscription continues under a link never issued before
 pub record Reconnects (old new : World) : Type 0 where

@@ -1,27 +1,24 @@
 -- The broker's state as a value, and its invariant.
 use Rattle.std.specs.Prelude.{◌≡◌, ℕ, suc, ◌+◌, ◌<◌, ◌≤◌, true, List, [], ◌∷◌, length, map}
-use Rattle.std.specs.Prelude.{replicate, Option, Some, None, IfSome, refl, Bool, false, zero, ◌-◌}
+use Rattle.std.specs.Prelude.{replicate, Option, Some, None, IfSome, Bool, false, zero, ◌-◌}
 use Rattle.std.specs.Prelude.{get_or}
-use Rattle.std.specs.Coded.{Coded, code_by, coded×, coded_list, coded_option, coded_bool, coded_ℕ}
 use Rattle.std.specs.FinMap as map
 use Rattle.std.specs.List.{AllByRecursion}
-use Rattle.cs_model.specs.contracts.shape.Shape as shape
 use Rattle.cs_model.specs.declared.shape.Shape.{Shape}
 use Rattle.cs_model.specs.Schema.{refusal_of}
 use Rattle.cs_model.specs.Section.{Section}
 use Rattle.cs_apply.specs.State as tables
-use Rattle.rb_desk.specs.contracts.delivery.Delivery as delivery
 use Rattle.rb_desk.specs.declared.delivery.Delivery.{Delivery}
 use Rattle.rb_desk.specs.IsPicture.{IsPicture}
 use Rattle.rb_desk.specs.Limits.{Limits}
 use Rattle.rb_desk.specs.Outline.{Member, outline_of}
-use Rattle.rb_desk.specs.Picture.{Picture, empty_picture, picture_code}
+use Rattle.rb_desk.specs.Picture.{Picture, empty_picture}
 use Rattle.rb_sequence.specs.contracts.item.Item as item
 use Rattle.rb_sequence.specs.declared.item.Item.{Item}
-use Rattle.rb_sequence.specs.Entry.{Entry, entry_code}
+use Rattle.rb_sequence.specs.Entry.{Entry}
 use Rattle.rb_sequence.specs.Items.{AreNumbered}
 use Rattle.rb_subscriber.specs.Accept.{IsAdmitted}
-use Rattle.rb_subscriber.specs.Endpoint.{Endpoint, endpoint_code}
+use Rattle.rb_subscriber.specs.Endpoint.{Endpoint}
 use Rattle.rb_core.specs.contracts.publisher.PublisherState as publisher
 use Rattle.rb_core.specs.declared.publisher.PublisherState.{PublisherState}
 
@@ -130,41 +127,3 @@ how_many_held (Some item) = 1
 
 abbrev pub how_many_wait : State → ℕ
 how_many_wait w = how_many_held w.hand + length w.intake
-
--- a world is stored as its parts
-abbrev pub world_code : Coded State
-world_code =
-    code_by (List Shape
-    × (List PublisherState
-    × (List Item
-    × (Option Item
-    × (List Entry × (Picture × (ℕ × (List Endpoint × (List Delivery × List Bool)))))))))
-    (coded× (coded_list shape.the_row.coded)
-    (coded× (coded_list publisher.the_row.coded) (coded× (coded_list item.the_row.coded)
-    (coded× (coded_option item.the_row.coded)
-    (coded× (coded_list entry_code) (coded× picture_code (coded× coded_ℕ
-    (coded× (coded_list endpoint_code)
-    (coded× (coded_list delivery.the_row.coded) (coded_list coded_bool))))))))))
-    (λ w. (
-      w.schema,
-      (
-        w.publishers,
-        (
-          w.intake,
-          (w.hand, (w.sequence, (w.desk, (w.steps, (w.endpoints, (w.deliveries, w.withdrawn)))))),
-        ),
-      ),
-    ))
-    (λ p. record {
-      schema = p.0;
-      publishers = p.1.0;
-      intake = p.1.1.0;
-      hand = p.1.1.1.0;
-      sequence = p.1.1.1.1.0;
-      desk = p.1.1.1.1.1.0;
-      steps = p.1.1.1.1.1.1.0;
-      endpoints = p.1.1.1.1.1.1.1.0;
-      deliveries = p.1.1.1.1.1.1.1.1.0;
-      withdrawn = p.1.1.1.1.1.1.1.1.1;
-    })
-    (λ _. refl)

@@ -29,6 +29,7 @@ use Rattle.rb_core.specs.Moves.{with_sender, with_subscriber, IsNew}
 use Rattle.rb_core.specs.Run.{Answer}
 use Rattle.rb_core.specs.State.{State, empty_tables, is_withdrawn}
 use Rattle.rb_core.specs.World.{Sender, Subscriber, World, world_begun, endpoint_of}
+use Rattle.rb_core.specs.World.{subscriber_begun}
 
 -- changes the publisher, or the subscription, with this number, if there is one
 abbrev pub sender_set : World → ℕ → (Sender → Sender) → Option Sender → World
@@ -134,17 +135,7 @@ placed old number = placed_from old number old.hand
 abbrev pub subscribed : List Shape → World → ℕ → ℕ → World
 subscribed schema old start link = record old {
   links = link ∷ old.links;
-  subscribers = old.subscribers
-      ++ record {
-        start = start;
-        base = empty_tables schema;
-        accepted = [];
-        tables = empty_tables schema;
-        link = link;
-        closed = false;
-        fallen = false;
-        deliveries = [];
-      } ∷ [];
+  subscribers = old.subscribers ++ subscriber_begun start link (empty_tables schema) ∷ [];
 }
 
 abbrev pub delivered : Delivery → Subscriber → Subscriber

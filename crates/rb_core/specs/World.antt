@@ -1,6 +1,6 @@
 -- The abstract world: what was sent, placed and accepted. It has no window, no clock, no spans and
 -- no order of deliveries.
-use Rattle.std.specs.Prelude.{ℕ, ◌+◌, Bool, List, [], length, Option, None}
+use Rattle.std.specs.Prelude.{ℕ, ◌+◌, Bool, false, List, [], length, Option, None}
 use Rattle.cs_apply.specs.State as tables
 use Rattle.rb_desk.specs.declared.delivery.Delivery.{Delivery}
 use Rattle.rb_sequence.specs.declared.item.Item.{Item}
@@ -52,6 +52,19 @@ world_begun = record {
   links = [];
   subscribers = [];
   withdrawn = [];
+}
+
+-- a subscription before any delivery: after this number, under this link, with these tables
+abbrev pub subscriber_begun : ℕ → ℕ → tables.TableState → Subscriber
+subscriber_begun start link base = record {
+  start = start;
+  base = base;
+  accepted = [];
+  tables = base;
+  link = link;
+  closed = false;
+  fallen = false;
+  deliveries = [];
 }
 
 -- the last number that a subscription has accepted

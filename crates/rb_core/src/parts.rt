@@ -32,11 +32,13 @@ pub(crate) struct Parts {
 
 impl Model for Parts {
     ghost use Rattle.std.specs.Arc.{arc_value};
-    ghost use Rattle.rb_core.specs.State.{State, world_code};
+    ghost use Rattle.std.specs.Coded.{codes};
+    ghost use Rattle.cs_apply.specs.State.{state_code};
+    ghost use Rattle.rb_core.specs.State.{State};
 
     ghost Value = { State };
 
-    ghost coded = { world_code };
+    ghost coded = { Prim.hlevel (codes, state_code) };
 
     ghost view = { λ w. record {
       schema = arc_value w.schema;

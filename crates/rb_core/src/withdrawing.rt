@@ -1,20 +1,16 @@
 //! Withdrawals of entries.
 
 ghost use Rattle.std.specs.Prelude.{◌≡◌, ◌<◌, ◌≤◌, length, slice_get, Some, IfOk, OnErr, OnOk};
-ghost use Rattle.std.specs.Prelude.{IfSome, IsSome};
-ghost use Rattle.std.specs.Option.{option_copied};
-ghost use Rattle.std.specs.Vec.{vec_capacity};
-ghost use Rattle.cs_invert.specs.Inverse.{withdrawal_of};
-ghost use Rattle.rb_core.specs.Memory.{MayRunOut};
-ghost use Rattle.rb_core.specs.Outcome as outcome;
-ghost use Rattle.rb_core.specs.Outcome.{entry_of};
-ghost use Rattle.rb_core.specs.declared.event.Event.TheVariants as event;
-ghost use Rattle.rb_core.specs.declared.publisher.PublisherState.{PublisherState};
-ghost use Rattle.rb_sequence.specs.Entry.{Entry};
-ghost use Rattle.rb_core.specs.State.{IsWorld, is_withdrawn, with_mark};
-ghost use Rattle.rb_subscriber.specs.Accept.{IsAdmitted};
+ghost use Rattle.std.specs.{Prelude.{IfSome, IsSome}, Option.{option_copied}, Vec.{vec_capacity}};
 ghost use Rattle.std.specs.List.{AllByRecursion};
-ghost use Rattle.rb_sequence.specs.Items.{AreNumbered};
+ghost use Rattle.cs_invert.specs.Inverse.{withdrawal_of};
+ghost use Rattle.rb_core.specs.{Memory.{MayRunOut}, Outcome.{entry_of}};
+ghost use Rattle.rb_core.specs.declared.publisher.PublisherState.{PublisherState};
+ghost use Rattle.rb_core.specs.State.{IsWorld, is_withdrawn, with_mark};
+ghost use Rattle.rb_sequence.specs.{Entry.{Entry}, Items.{AreNumbered}};
+ghost use Rattle.rb_subscriber.specs.Accept.{IsAdmitted};
+ghost use Rattle.rb_core.specs.Outcome as outcome;
+ghost use Rattle.rb_core.specs.declared.event.Event.TheVariants as event;
 
 use crate::parts::Parts;
 use crate::publisher::Staged;

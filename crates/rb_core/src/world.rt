@@ -29,11 +29,13 @@ pub struct World {
 }
 
 impl Model for World {
-    ghost use Rattle.rb_core.specs.State.{State, world_code, IsWorld};
+    ghost use Rattle.std.specs.Coded.{codes};
+    ghost use Rattle.cs_apply.specs.State.{state_code};
+    ghost use Rattle.rb_core.specs.State.{State, IsWorld};
 
     ghost Value = { State };
 
-    ghost coded = { world_code };
+    ghost coded = { Prim.hlevel (codes, state_code) };
 
     ghost view = { λ w. w.parts };
 

@@ -4,9 +4,9 @@ pub mod EarlierLaws
 pub mod OpenLaws
 pub mod SearchLaws
 pub mod HandLaws
-pub mod OpenedLaws
 pub mod CuttingLaws
 pub mod PlaceLaws
 pub mod ExpireLaws
 pub mod ExpireShown
+pub mod StoredLaws
 pub mod CallLaws

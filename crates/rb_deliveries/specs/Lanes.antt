@@ -3,10 +3,8 @@
 -- that were taken are stored, each with its ticket.
 use Rattle.std.specs.Prelude.{ℕ, suc, ◌≤◌, ◌<◌, Bool, true, false, ◌||◌, ◌&&◌, List, [], ◌∷◌}
 use Rattle.std.specs.Prelude.{◌++◌, map, Option, Some, None, ◌==◌, nat_lt, nat_le, if◌then◌else◌}
-use Rattle.std.specs.Prelude.{refl, not, ◌-◌}
+use Rattle.std.specs.Prelude.{not, ◌-◌}
 use Rattle.std.specs.List.{filter}
-use Rattle.std.specs.Coded.{Coded, code_by, coded×, coded_list, coded_ℕ}
-use Rattle.rb_deliveries.specs.contracts.ticket.Held as held
 use Rattle.rb_deliveries.specs.contracts.ticket.Ticket as ticket
 use Rattle.rb_deliveries.specs.declared.ticket.Ticket.{Ticket}
 use Rattle.rb_deliveries.specs.declared.ticket.Held.{Held}
@@ -21,14 +19,6 @@ pub record Lane : Type 0 where
   pub held : List Held
   pub next : ℕ
   pub cutting : Ticket
-
--- a lane is stored as its parts
-abbrev pub lane_code : Coded Lane
-lane_code =
-    code_by (List Held × (ℕ × Ticket))
-    (coded× (coded_list held.the_row.coded) (coded× coded_ℕ ticket.the_row.coded))
-    (λ k. (k.held, (k.next, k.cutting)))
-    (λ p. record { held = p.0; next = p.1.0; cutting = p.1.1 }) (λ _. refl)
 
 -- everything before the first span is settled; if none was taken, everything before the next number
 abbrev pub floor_before : List Held → ℕ → ℕ

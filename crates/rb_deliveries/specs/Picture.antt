@@ -1,8 +1,7 @@
 -- Deliveries as a value: the picture of what waits for each subscription, and of what is in flight
 -- to it. Everything up to a subscription's floor is settled, and so is a number after it that is in
 -- no span.
-use Rattle.std.specs.Prelude.{ℕ, Bool, List, [], refl}
-use Rattle.std.specs.Coded.{Coded, code_by, coded×, coded_list, coded_ℕ, coded_bool}
+use Rattle.std.specs.Prelude.{ℕ, Bool, List, []}
 use Rattle.rb_deliveries.specs.contracts.span.Span as span
 use Rattle.rb_deliveries.specs.declared.span.Span.{Span}
 
@@ -46,50 +45,3 @@ no_deliveries batch window = record {
   ready = [];
   in_flight = [];
 }
-
--- subscriptions and pictures are stored as their parts
-abbrev pub subscription_code : Coded Subscription
-subscription_code =
-    code_by (ℕ × (ℕ × (ℕ × (ℕ × (Bool × List Span)))))
-    (coded× coded_ℕ
-    (coded× coded_ℕ
-    (coded× coded_ℕ (coded× coded_ℕ (coded× coded_bool (coded_list span.the_row.coded))))))
-    (λ s. (s.start, (s.floor, (s.offered, (s.link, (s.closed, s.spans))))))
-    (λ p. record {
-      start = p.0;
-      floor = p.1.0;
-      offered = p.1.1.0;
-      link = p.1.1.1.0;
-      closed = p.1.1.1.1.0;
-      spans = p.1.1.1.1.1;
-    })
-    (λ _. refl)
-
-abbrev pub delivery_picture_code : Coded DeliveryPicture
-delivery_picture_code =
-    code_by (ℕ × (ℕ × (ℕ × (ℕ × (List Subscription × (List (ℕ × ℕ) × List (ℕ × ℕ)))))))
-    (coded× coded_ℕ
-    (coded× coded_ℕ
-    (coded× coded_ℕ
-    (coded× coded_ℕ
-    (coded× (coded_list subscription_code)
-    (coded× (coded_list (coded× coded_ℕ coded_ℕ)) (coded_list (coded× coded_ℕ coded_ℕ))))))))
-    (λ d. (
-      d.batch,
-      (d.window, (d.front, (d.next_delivery, (d.subscriptions, (d.ready, d.in_flight))))),
-    ))
-    (λ p. record {
-      batch = p.0;
-      window = p.1.0;
-      front = p.1.1.0;
-      next_delivery = p.1.1.1.0;
-      subscriptions = p.1.1.1.1.0;
-      ready = p.1.1.1.1.1.0;
-      in_flight = p.1.1.1.1.1.1;
-    })
-    (λ _. refl)
-
-abbrev pub seen_code : Coded DeliveriesSeen
-seen_code =
-    code_by (DeliveryPicture × ℕ) (coded× delivery_picture_code coded_ℕ)
-    (λ d. (d.picture, d.turns)) (λ p. record { picture = p.0; turns = p.1 }) (λ _. refl)

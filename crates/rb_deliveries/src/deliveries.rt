@@ -32,12 +32,10 @@ pub struct Deliveries {
 }
 
 impl Model for Deliveries {
-    ghost use Rattle.rb_deliveries.specs.Picture.{DeliveriesSeen, seen_code};
+    ghost use Rattle.rb_deliveries.specs.Picture.{DeliveriesSeen};
     ghost use Rattle.rb_deliveries.specs.Pictured.{DeliveriesAgree, pictured};
 
     ghost Value = { DeliveriesSeen };
-
-    ghost coded = { seen_code };
 
     ghost view = { λ d. record {
       picture = pictured d.batch d.subs.window d.front d.next_delivery d.subs.subs;

@@ -36,12 +36,10 @@ pub(crate) struct Subs {
 }
 
 impl Model for Subs {
-    ghost use Rattle.rb_deliveries.specs.KeptSubs.{KeptSubs, kept_code};
+    ghost use Rattle.rb_deliveries.specs.KeptSubs.{KeptSubs};
     ghost use Rattle.rb_deliveries.specs.Waiting.{AreWaiting};
 
     ghost Value = { KeptSubs };
-
-    ghost coded = { kept_code };
 
     ghost view = { λ d. record { window = d.window; subs = d.subs.items } };
 

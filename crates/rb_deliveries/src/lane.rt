@@ -28,11 +28,9 @@ pub(crate) struct Lane {
 }
 
 impl Model for Lane {
-    ghost use Rattle.rb_deliveries.specs.Lanes.{Lane, lane_code, HeldRise};
+    ghost use Rattle.rb_deliveries.specs.Lanes.{Lane, HeldRise};
 
     ghost Value = { Lane };
-
-    ghost coded = { lane_code };
 
     ghost view = { λ l. record {
       held = l.held;

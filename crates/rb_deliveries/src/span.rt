@@ -45,13 +45,7 @@ impl Status {
     pub(crate) fn is_out(self) -> bool
         ensures { result ≡ is_out self }
     {
-        match self {
-            Status::Ready { taken: _ } => false,
-            Status::InFlight {
-                number: _,
-                moment: _,
-            } => true,
-        }
+        !self.is_ready()
     }
 
     /// Whether they are in flight as this delivery.

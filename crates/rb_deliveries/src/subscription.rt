@@ -20,12 +20,10 @@ pub struct SubscriptionRef<'a> {
 
 impl<'a> Model for SubscriptionRef<'a> {
     ghost use Rattle.rb_deliveries.specs.Lanes.{AreLimited};
-    ghost use Rattle.rb_deliveries.specs.Picture.{Subscription, subscription_code};
+    ghost use Rattle.rb_deliveries.specs.Picture.{Subscription};
     ghost use Rattle.rb_deliveries.specs.Pictured.{pictured_sub};
 
     ghost Value = { Subscription };
-
-    ghost coded = { subscription_code };
 
     ghost view = { λ q. pictured_sub q.batch q.front q.sub.now };
 

@@ -2,6 +2,7 @@
 pub mod PictureLaws
 pub mod RiseLaws
 pub mod StandLaws
+pub mod OutSpans
 pub mod KeepHand
 pub mod KeepSettle
 pub mod OpenedLaws
@@ -9,4 +10,5 @@ pub mod KeepOpen
 pub mod KeepCut
 pub mod KeepPlace
 pub mod KeepExpire
+pub mod CallRises
 pub mod Replays

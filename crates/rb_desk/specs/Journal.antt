@@ -1,8 +1,6 @@
 -- A journal: the steps that its pieces of memory say, in order.
-use Rattle.std.specs.Prelude.{ℕ, List, [], ◌∷◌, ◌++◌, replicate, refl}
-use Rattle.std.specs.Coded.{Coded, code_by, coded×, coded_list, coded_ℕ}
+use Rattle.std.specs.Prelude.{ℕ, List, [], ◌∷◌, ◌++◌, replicate}
 use Rattle.std.specs.List.{flat_map}
-use Rattle.rb_desk.specs.contracts.step.Step as step
 use Rattle.rb_desk.specs.declared.journal.Kept.{Kept}
 use Rattle.rb_desk.specs.declared.step.Step.{Step}
 use Rattle.rb_desk.specs.declared.step.Step.TheVariants.{Place}
@@ -12,11 +10,6 @@ use Rattle.rb_desk.specs.declared.step.Step.TheVariants.{Place}
 pub record Log : Type 0 where
   pub steps : List Step
   pub room : ℕ
-
--- logs are stored as their parts
-abbrev pub log_code : Coded Log
-log_code = code_by (List Step × ℕ) (coded× (coded_list step.the_row.coded) coded_ℕ)
-    (λ l. (l.steps, l.room)) (λ p. record { steps = p.0; room = p.1 }) (λ _. refl)
 
 -- the placements
 abbrev pub placements : ℕ → List Step

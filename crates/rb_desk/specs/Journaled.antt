@@ -1,11 +1,8 @@
 -- A desk with its journal, and what its calls return and leave. A tallied board is the same with
 -- the number of steps alone.
-use Rattle.std.specs.Prelude.{◌≡◌, ℕ, suc, Bool, true, false, nat_le, List, [], ◌∷◌, ◌++◌}
+use Rattle.std.specs.Prelude.{◌≡◌, ◌≤◌, ℕ, suc, Bool, true, false, nat_le, List, [], ◌∷◌, ◌++◌}
 use Rattle.std.specs.Prelude.{length, Option, Some, None, Result, Ok, Err, IsOk, if◌then◌else◌}
-use Rattle.std.specs.Prelude.{refl}
-use Rattle.std.specs.Coded.{Coded, code_by, coded×, coded_list, coded_ℕ}
 use Rattle.std.specs.List.{count_by}
-use Rattle.rb_desk.specs.contracts.step.Step as step
 use Rattle.rb_desk.specs.declared.refusal.DeskError.{DeskError}
 use Rattle.rb_desk.specs.declared.refusal.DeskError.TheVariants.{Refused, Memory}
 use Rattle.rb_desk.specs.declared.refusal.DeskRefusal.{DeskRefusal}
@@ -14,7 +11,8 @@ use Rattle.rb_desk.specs.declared.step.Step.{Step}
 use Rattle.rb_desk.specs.declared.step.Step.TheVariants.{Subscribe, Take, TakeAny, Ack, Nack}
 use Rattle.rb_desk.specs.declared.step.Step.TheVariants.{Expire, Reconnect, Unsubscribe, Place}
 use Rattle.rb_desk.specs.declared.step.Step.TheVariants.{Close, NackOpened}
-use Rattle.rb_desk.specs.Picture.{Picture, picture_code}
+use Rattle.rb_desk.specs.Journal.{Log}
+use Rattle.rb_desk.specs.Picture.{Picture}
 use Rattle.rb_desk.specs.Steps.{replay}
 
 -- A desk: its picture, and all steps that were made, in order.
@@ -30,6 +28,13 @@ pub record TalliedPicture : Type 0 where
 -- the picture is what the steps lead to
 abbrev pub IsReplay : JournaledPicture → Type 0
 IsReplay desk = replay desk.picture.limits desk.steps ≡ desk.picture
+
+-- What a desk keeps of its board and its journal: the steps lead to the picture, the board has
+-- counted them, and unless the sequence is closed there is room for its closing.
+pub record JournalAgrees (board : TalliedPicture) (journal : Log) : Type 0 where
+  pub leads : replay board.picture.limits journal.steps ≡ board.picture
+  pub counted : board.steps ≡ length journal.steps
+  pub room : board.picture.closing ≡ None → 1 ≤ journal.room
 
 -- ---- answers
 
@@ -97,13 +102,3 @@ is_own Close = false
 -- how many steps of a kind there are
 abbrev pub counted_steps : (Step → Bool) → List Step → ℕ
 counted_steps kind steps = count_by kind steps
-
--- states are stored as their parts
-abbrev pub journaled_code : Coded JournaledPicture
-journaled_code = code_by (Picture × List Step)
-    (coded× picture_code (coded_list step.the_row.coded))
-    (λ d. (d.picture, d.steps)) (λ p. record { picture = p.0; steps = p.1 }) (λ _. refl)
-
-abbrev pub tallied_code : Coded TalliedPicture
-tallied_code = code_by (Picture × ℕ) (coded× picture_code coded_ℕ)
-    (λ b. (b.picture, b.steps)) (λ p. record { picture = p.0; steps = p.1 }) (λ _. refl)

@@ -1,6 +1,5 @@
 -- The limits of a broker, and their ranges.
-use Rattle.std.specs.Prelude.{ℕ, Bool, ◌&&◌, not, nat_le, Option, Some, None, if◌then◌else◌, refl}
-use Rattle.std.specs.Coded.{Coded, code_by, coded×, coded_ℕ}
+use Rattle.std.specs.Prelude.{ℕ, Bool, ◌&&◌, not, nat_le, Option, Some, None, if◌then◌else◌}
 use Rattle.rb_deliveries.specs.Lanes.{most_numbers}
 use Rattle.rb_desk.specs.declared.config.ConfigFault.{ConfigFault}
 use Rattle.rb_desk.specs.declared.config.ConfigFault.TheVariants.{Batch, Window, Timeout, Capacity}
@@ -20,22 +19,6 @@ pub record Limits : Type 0 where
   pub capacity : ℕ
   pub intake : ℕ
   pub appliers : ℕ
-
--- limits are stored as their numbers
-abbrev pub limits_code : Coded Limits
-limits_code =
-    code_by (ℕ × (ℕ × (ℕ × (ℕ × (ℕ × ℕ)))))
-    (coded× coded_ℕ (coded× coded_ℕ (coded× coded_ℕ (coded× coded_ℕ (coded× coded_ℕ coded_ℕ)))))
-    (λ c. (c.batch, (c.window, (c.timeout, (c.capacity, (c.intake, c.appliers))))))
-    (λ p. record {
-      batch = p.0;
-      window = p.1.0;
-      timeout = p.1.1.0;
-      capacity = p.1.1.1.0;
-      intake = p.1.1.1.1.0;
-      appliers = p.1.1.1.1.1;
-    })
-    (λ _. refl)
 
 -- whether a number is from 1 to `most`
 abbrev pub is_in_range : ℕ → ℕ → Bool

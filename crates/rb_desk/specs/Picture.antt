@@ -1,8 +1,7 @@
 -- The desk's state as a value: a picture, with its subscriptions and orders.
-use Rattle.std.specs.Prelude.{ℕ, List, [], Option, None, refl}
-use Rattle.std.specs.Coded.{Coded, code_by, coded×, coded_list, coded_ℕ, coded_option}
-use Rattle.rb_deliveries.specs.Picture.{DeliveryPicture, Subscription, subscription_code}
-use Rattle.rb_desk.specs.Limits.{Limits, limits_code}
+use Rattle.std.specs.Prelude.{ℕ, List, [], Option, None}
+use Rattle.rb_deliveries.specs.Picture.{DeliveryPicture, Subscription}
+use Rattle.rb_desk.specs.Limits.{Limits}
 
 -- A picture. It has the limits, the front (the last number placed; at first 0), the closing number
 -- if the sequence is closed, and the clock. It has the next link, the next delivery's number, the
@@ -53,37 +52,3 @@ with_deliveries p d = record p {
   ready = d.ready;
   in_flight = d.in_flight;
 }
-
--- pictures are stored as their parts
-abbrev pub picture_code : Coded Picture
-picture_code =
-    code_by (Limits
-    × (ℕ × (Option ℕ × (ℕ × (ℕ × (ℕ × (List Subscription × (List (ℕ × ℕ) × List (ℕ × ℕ)))))))))
-    (coded× limits_code
-    (coded× coded_ℕ (coded× (coded_option coded_ℕ)
-    (coded× coded_ℕ (coded× coded_ℕ (coded× coded_ℕ
-    (coded× (coded_list subscription_code)
-    (coded× (coded_list (coded× coded_ℕ coded_ℕ)) (coded_list (coded× coded_ℕ coded_ℕ))))))))))
-    (λ d. (
-      d.limits,
-      (
-        d.front,
-        (
-          d.closing,
-          (d.clock, (d.next_link, (d.next_delivery, (d.subscriptions, (d.ready, d.in_flight))))),
-        ),
-      ),
-    ))
-    (λ p. record {
-      limits = p.0;
-      front = p.1.0;
-      closing = p.1.1.0;
-      clock = p.1.1.1.0;
-      next_link = p.1.1.1.1.0;
-      next_delivery = p.1.1.1.1.1.0;
-      subscriptions =
-          p.1.1.1.1.1.1.0;
-      ready = p.1.1.1.1.1.1.1.0;
-      in_flight = p.1.1.1.1.1.1.1.1;
-    })
-    (λ _. refl)

@@ -22,14 +22,7 @@ two_in_flight = record {
 }
 
 abbrev large_batches : Limits
-large_batches = record {
-  batch = 256;
-  window = 4;
-  timeout = 10;
-  capacity = 9;
-  intake = 1;
-  appliers = 1;
-}
+large_batches = record two_in_flight { batch = 256; window = 4 }
 
 -- three numbers are placed, and two are taken
 abbrev two_taken : Picture

@@ -1,8 +1,7 @@
 -- The picture that a desk shows, computed from what it stores, what its calls find, and how many
 -- numbers a call draws.
 use Rattle.std.specs.Prelude.{◌≡◌, ◌≤◌, ◌<◌, ◌+◌, ◌*◌, ℕ, suc, false, true, Option, None, Some}
-use Rattle.std.specs.Prelude.{Result, Ok, Err, slice_get, refl, ⊤}
-use Rattle.std.specs.Coded.{Coded, code_by, coded×, coded_ℕ}
+use Rattle.std.specs.Prelude.{Result, Ok, Err, slice_get, ⊤}
 use Rattle.rb_deliveries.specs.declared.span.Span.{Span}
 use Rattle.rb_deliveries.specs.Changes.{has_room}
 use Rattle.rb_deliveries.specs.Picture.{DeliveryPicture, Subscription}
@@ -11,29 +10,16 @@ use Rattle.rb_deliveries.specs.Spans.{first_ready, out_as}
 use Rattle.rb_desk.specs.declared.refusal.DeskRefusal.{DeskRefusal}
 use Rattle.rb_desk.specs.Calls.{take, ack, nack, nack_opened, reconnect, refused_call, unsubscribe}
 use Rattle.rb_desk.specs.Limits.{Limits}
-use Rattle.rb_desk.specs.Picture.{Picture, picture_code}
+use Rattle.rb_desk.specs.Picture.{Picture, empty_picture, with_deliveries}
 
 -- a board: its picture, and how many turns its deliveries drew
 pub record BoardSeen : Type 0 where
   pub picture : Picture
   pub turns : ℕ
 
-abbrev pub board_code : Coded BoardSeen
-board_code = code_by (Picture × ℕ) (coded× picture_code coded_ℕ)
-    (λ b. (b.picture, b.turns)) (λ p. record { picture = p.0; turns = p.1 }) (λ _. refl)
-
 abbrev pub shown : Limits → Option ℕ → ℕ → ℕ → DeliveryPicture → Picture
-shown limits closing clock next_link deliveries = record {
-  limits = limits;
-  front = deliveries.front;
-  closing = closing;
-  clock = clock;
-  next_link = next_link;
-  next_delivery = deliveries.next_delivery;
-  subscriptions = deliveries.subscriptions;
-  ready = deliveries.ready;
-  in_flight = deliveries.in_flight;
-}
+shown limits closing clock next_link = with_deliveries
+    (record (empty_picture limits) { closing = closing; clock = clock; next_link = next_link })
 
 -- the deliveries have these limits, and the front is within the capacity
 pub record IsWithin (limits : Limits) (deliveries : DeliveryPicture) : Type 0 where
@@ -68,6 +54,15 @@ pub record IsTallied (board : BoardSeen) (steps : ℕ) : Type 0 where
   pub front : board.picture.front ≤ steps
 
 -- ---- what the calls find
+
+-- the subscription of this number, which has this link
+abbrev pub FindsLinked : Result Subscription DeskRefusal → Picture → ℕ → ℕ → Type 0
+FindsLinked (Ok q) p s link = (slice_get p.subscriptions s ≡ Some q) × (q.link ≡ link)
+FindsLinked (Err why) p s link = ((cursor now : ℕ) → take p s link cursor now ≡ refused_call p why)
+    × ((number cursor : ℕ) → ack p s link number cursor ≡ refused_call p why)
+    × ((number : ℕ) → nack p s link number ≡ refused_call p why)
+    × ((number : ℕ) → nack_opened p s link number ≡ refused_call p why)
+    × (unsubscribe p s link ≡ refused_call p why)
 
 -- The span is the one that `take` delivers: the first ready span of this subscription, which is
 -- open, has this link, and has room in its window.

@@ -2,9 +2,11 @@
 
 ghost use Rattle.std.specs.Prelude.{◌≡◌};
 ghost use Rattle.rb_desk.specs.Picture.{empty_picture};
+ghost use Rattle.rb_desk.specs.Shown.{FindsLinked};
 
 use crate::config::Config;
-use rb_deliveries::Deliveries;
+use crate::refusal::DeskRefusal;
+use rb_deliveries::{Deliveries, SubscriptionRef};
 use std::alloc::Global;
 use std::marker::Model;
 
@@ -20,11 +22,9 @@ pub(crate) struct Board {
 }
 
 impl Model for Board {
-    ghost use Rattle.rb_desk.specs.Shown.{BoardSeen, IsWithin, board_code, shown};
+    ghost use Rattle.rb_desk.specs.Shown.{BoardSeen, IsWithin, shown};
 
     ghost Value = { BoardSeen };
-
-    ghost coded = { board_code };
 
     ghost view = { λ d. record {
       picture = shown d.config d.closing d.clock d.next_link d.deliveries.picture;
@@ -53,5 +53,19 @@ impl Board {
         ensures { result ≡ self.now.picture.limits }
     {
         self.config
+    }
+
+    /// The subscription of this number, if this is its link, or why there is none.
+    #[tactic(auto, unfolding(crate::specs::Calls::take, crate::specs::Calls::ack, crate::specs::Calls::nack, crate::specs::Calls::nack_opened, crate::specs::Calls::unsubscribe))]
+    pub(crate) fn linked(&self, sub: u64, link: u64) -> Result<SubscriptionRef<'_>, DeskRefusal>
+        ensures { FindsLinked result self.now.picture sub link }
+    {
+        let Some(found) = self.deliveries.get(sub) else {
+            return Err(DeskRefusal::NoSuch);
+        };
+        if found.link() != link {
+            return Err(DeskRefusal::StaleLink);
+        }
+        Ok(found)
     }
 }

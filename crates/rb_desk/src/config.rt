@@ -37,11 +37,9 @@ pub enum ConfigFault {
 
 impl Model for Config {
     ghost use Rattle.std.specs.Prelude.{◌≡◌, None};
-    ghost use Rattle.rb_desk.specs.Limits.{Limits, limits_code, first_out_of_range};
+    ghost use Rattle.rb_desk.specs.Limits.{Limits, first_out_of_range};
 
     ghost Value = { Limits };
-
-    ghost coded = { limits_code };
 
     ghost view = { λ c. record {
       batch = c.batch;

@@ -32,19 +32,13 @@ pub struct Desk {
 }
 
 impl Model for Desk {
-    ghost use Rattle.std.specs.Prelude.{◌≡◌, ◌≤◌, None, length};
-    ghost use Rattle.rb_desk.specs.Steps.{replay};
-    ghost use Rattle.rb_desk.specs.Journaled.{JournaledPicture, journaled_code};
+    ghost use Rattle.rb_desk.specs.Journaled.{JournalAgrees, JournaledPicture};
 
     ghost Value = { JournaledPicture };
 
-    ghost coded = { journaled_code };
-
     ghost view = { λ d. record { picture = d.board.picture; steps = d.journal.steps } };
 
-    ghost invariant = { λ d. (replay d.board.picture.limits d.journal.steps ≡ d.board.picture)
-        × (d.board.steps ≡ length d.journal.steps)
-        × (d.board.picture.closing ≡ None → 1 ≤ d.journal.room) };
+    ghost invariant = { λ d. JournalAgrees d.board d.journal };
 }
 
 impl Desk {

@@ -30,11 +30,9 @@ pub(crate) struct Journal {
 
 impl Model for Journal {
     ghost use Rattle.std.specs.Prelude.{◌-◌, map, vec_len, vec_capacity};
-    ghost use Rattle.rb_desk.specs.Journal.{Log, log_code, steps_in};
+    ghost use Rattle.rb_desk.specs.Journal.{Log, steps_in};
 
     ghost Value = { Log };
-
-    ghost coded = { log_code };
 
     ghost view = { λ j. record {
       steps = steps_in (map (λ piece. piece.items) j.full.items) j.last.items j.placed;

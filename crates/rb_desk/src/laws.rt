@@ -97,6 +97,7 @@ pub fn drained_is_at_the_end()
 
 /// Only `subscribe` changes how many subscriptions there are, and only `close` the closing number.
 /// The number of a new subscription is how many there were before it.
+#[tactic(auto, using(crate::proofs::pictures::Replays::frames))]
 pub fn only_subscribe_and_close()
     ensures subscribe { (old : Picture) (start s link : ℕ) → (subscribe old start).0 ≡ Ok (s, link)
         → (s ≡ length old.subscriptions) × (length old.subscriptions < 1024)

@@ -123,12 +123,7 @@ impl Board {
     fn in_flight(&self, sub: u64, link: u64, delivery: u64) -> Result<Span, DeskRefusal>
         ensures { FindsInFlight result self.now.picture sub link delivery }
     {
-        let Some(found) = self.deliveries.get(sub) else {
-            return Err(DeskRefusal::NoSuch);
-        };
-        if found.link() != link {
-            return Err(DeskRefusal::StaleLink);
-        }
+        let found = self.linked(sub, link)?;
         match found.out_as(delivery) {
             Some(span) => Ok(span),
             None => Err(DeskRefusal::NotInFlight),

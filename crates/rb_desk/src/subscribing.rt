@@ -122,12 +122,7 @@ impl Board {
     fn to_close(&self, sub: u64, link: u64) -> Result<(), DeskRefusal>
         ensures { FindsToClose result self.now.picture sub link }
     {
-        let Some(found) = self.deliveries.get(sub) else {
-            return Err(DeskRefusal::NoSuch);
-        };
-        if found.link() != link {
-            return Err(DeskRefusal::StaleLink);
-        }
+        let found = self.linked(sub, link)?;
         if found.closed() {
             return Err(DeskRefusal::Closed);
         }

@@ -89,12 +89,7 @@ impl Board {
     fn to_take(&self, sub: u64, link: u64, cursor: u64) -> Result<Span, DeskRefusal>
         ensures { FindsToTake result self.now.picture sub link cursor }
     {
-        let Some(found) = self.deliveries.get(sub) else {
-            return Err(DeskRefusal::NoSuch);
-        };
-        if found.link() != link {
-            return Err(DeskRefusal::StaleLink);
-        }
+        let found = self.linked(sub, link)?;
         if found.closed() {
             return Err(DeskRefusal::Closed);
         }

@@ -28,12 +28,10 @@ pub struct TalliedBoard {
 }
 
 impl Model for TalliedBoard {
-    ghost use Rattle.rb_desk.specs.Journaled.{TalliedPicture, tallied_code};
+    ghost use Rattle.rb_desk.specs.Journaled.{TalliedPicture};
     ghost use Rattle.rb_desk.specs.Shown.{IsTallied};
 
     ghost Value = { TalliedPicture };
-
-    ghost coded = { tallied_code };
 
     ghost view = { λ b. record { picture = b.board.picture; steps = b.steps } };
 

@@ -28,12 +28,13 @@ impl<L: Hall, S: Alter> Model for KeptSubscription<L, S> {
     ghost use Rattle.std.specs.Prelude.{IfSome};
     ghost use Rattle.sqlite.specs.Held.{state};
     ghost use Rattle.rb_drive.specs.Kept.{KeepsSubscription};
+    ghost use Rattle.std.specs.Coded.{codes};
+    ghost use Rattle.cs_apply.specs.State.{state_code};
     ghost use Rattle.rb_subscriber.specs.Subscription.{SubscriptionState};
-    ghost use Rattle.rb_subscriber.specs.Subscription.{subscription_state_code};
 
     ghost Value = { SubscriptionState };
 
-    ghost coded = { subscription_state_code };
+    ghost coded = { Prim.hlevel (codes, state_code) };
 
     ghost view = { λ k. k.subscription };
 

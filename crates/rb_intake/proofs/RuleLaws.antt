@@ -12,8 +12,8 @@ use Rattle.rb_sequence.specs.Items.{own_of, CountsUp}
 use Rattle.rb_intake.specs.declared.known.Known.{Known}
 use Rattle.rb_intake.specs.declared.known.Known.TheVariants.{Starts, Makes, Sends, Pulls, Ends, Spent}
 use Rattle.rb_intake.specs.Joined.{HasEndedAs, JoinedOnce}
-use Rattle.rb_intake.specs.Rule.{History, HasEnded, IsSo, KeepsOrder, made_one, newcomer, sequencer_first}
-use Rattle.rb_intake.specs.Rule.{maker, sent_one, ended_with_maker, AreFronts, AreWhole}
+use Rattle.rb_intake.specs.Rule.{History, HasEnded, IsSo, KeepsOrder, after_making, newcomer}
+use Rattle.rb_intake.specs.Rule.{sent_one, AreFronts, AreWhole}
 use Rattle.rb_intake.specs.Rule.{pulled_one, taken_in, pulled_in, ended_in, IsPulledOr}
 use Rattle.rb_intake.proofs.Views.{EachPass, each_pass_set, each_pass_more, with_seat, here, elsewhere, all_weaker}
 use Rattle.rb_intake.proofs.Views.{all_more}
@@ -55,7 +55,14 @@ first_others h pass now so j (Pulls items ended) isnt was = absurd (isnt (was.0 
 first_others h pass now so j (Ends items ended n) isnt was = absurd (isnt (was.0 ∙ sym so.0))
 first_others h pass now so j Spent isnt was = tt
 
-pub forks_first : (pass : ℕ) (v : Known) → v ≡ Starts → Forks KeepsOrder pass v (sequencer_first v) (maker v)
+-- a pass that knows this makes another, by what the rule is then
+forks_so : (pass : ℕ) (v known : Known) (waiting : List Item) (views : List Known) → v ≡ known
+    → KeepsOrder waiting (set views pass (after_making known) ++ newcomer known ∷ [])
+    → KeepsOrder waiting (set views pass (after_making v) ++ newcomer v ∷ [])
+forks_so pass v known waiting views is =
+    subst (λ (u : Known). KeepsOrder waiting (set views pass (after_making u) ++ newcomer u ∷ [])) (sym is)
+
+pub forks_first : (pass : ℕ) (v : Known) → v ≡ Starts → Forks KeepsOrder pass v (after_making v) (newcomer v)
 forks_first pass v is waiting views kept at =
     let h : History = kept.0 in
     let so : IsSo h pass Starts = kept.1.known pass Starts (at ∙ ap some is) in
@@ -63,7 +70,8 @@ forks_first pass v is waiting views kept at =
     let new : History = record h { maker = length vs } in
     let none : [] ≡ h.pulled = nothing_before h.pulled waiting (sym so.3 ∙ kept.1.waits) in
     let old : EachPass (IsSo new) vs = each_pass_set (IsSo new) views pass (Pulls [] []) (so.0, none, tt, tt)
-    (λ j u isnt e. first_others h pass (length vs) so j u isnt (kept.1.known j u e)) in (
+    (λ j u isnt e. first_others h pass (length vs) so j u isnt (kept.1.known j u e)) in
+    forks_so pass v Starts waiting views is (
       new,
       record {
         waits = kept.1.waits;
@@ -98,9 +106,9 @@ make_others h pass now n is_maker made j (Pulls items ended) isnt was = (
 make_others h pass now n is_maker made j (Ends items ended m) isnt was = absurd (isnt (was.3 ∙ sym is_maker))
 make_others h pass now n is_maker made j Spent isnt was = tt
 
-pub forks_make : (pass : ℕ) (v : Known) (n : ℕ) → v ≡ Makes n → Forks KeepsOrder pass v (made_one v) (newcomer v)
+pub forks_make : (pass : ℕ) (v : Known) (n : ℕ) → v ≡ Makes n → Forks KeepsOrder pass v (after_making v) (newcomer v)
 forks_make pass v n is waiting views kept at =
-    subst (λ (u : Known). KeepsOrder waiting (set views pass (made_one u) ++ newcomer u ∷ [])) (sym is) made
+    forks_so pass v (Makes n) waiting views is made
   where
     made : KeepsOrder waiting (set views pass (Makes (suc n)) ++ Sends n [] ∷ [])
     made =
@@ -326,10 +334,10 @@ end_others h pass other reader maker_is j (Ends items ended n) isnt apart was = 
 end_others h pass other reader maker_is j Spent isnt apart was = tt
 
 pub ends_keeps : (pass : ℕ) (v : Known) (other : ℕ) (w : Known) (items : List Item) (ended : List (ℕ × List Item)) (n : ℕ)
-    → v ≡ Pulls items ended → w ≡ Makes n → Merges KeepsOrder pass v other w (ended_with_maker v w) Spent
+    → v ≡ Pulls items ended → w ≡ Makes n → Merges KeepsOrder pass v other w (taken_in v w) Spent
 ends_keeps pass v other w items ended n is is' waiting views kept at two at' =
     subst (λ (u : Known). KeepsOrder waiting (set (set views pass u) other Spent))
-    (λ i. ended_with_maker (sym is i) (sym is' i)) merged
+    (λ i. taken_in (sym is i) (sym is' i)) merged
   where
     merged : KeepsOrder waiting (set (set views pass (Ends items ended n)) other Spent)
     merged =
@@ -337,7 +345,7 @@ ends_keeps pass v other w items ended n is is' waiting views kept at two at' =
         let both : Known = Ends items ended n in
         let so : IsSo h pass (Pulls items ended) = kept.1.known pass (Pulls items ended) (at ∙ ap some is) in
         let was : get_elem? views other ≡ some w =
-        ⊎_elim (λ x. absurd (two x.0)) (λ x. x.1) (at_set views pass other (ended_with_maker v w) w at') in
+        ⊎_elim (λ x. absurd (two x.0)) (λ x. x.1) (at_set views pass other (taken_in v w) w at') in
         let theirs : IsSo h other (Makes n) = kept.1.known other (Makes n) (was ∙ ap some is') in
         let new : History = record h { maker = pass } in
         let now : EachPass (λ j u. j ≢ other → IsSo new j u) (set views pass both) =

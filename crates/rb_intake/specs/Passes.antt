@@ -1,9 +1,7 @@
 -- The passes of an intake as contracts see them.
-use Rattle.std.specs.Prelude.{◌≡◌, ℕ, ◌+◌, List, [], ◌∷◌, ◌++◌, length, refl}
-use Rattle.std.specs.Coded.{Coded, code_by, coded×, coded_ℕ, coded_list}
+use Rattle.std.specs.Prelude.{◌≡◌, ℕ, ◌+◌, List, [], ◌∷◌, ◌++◌, length}
 use Rattle.std.specs.List.{AllByRecursion}
-use Rattle.atomic_table.specs.Seated.{TableId, table_id_coded}
-use Rattle.rb_sequence.specs.contracts.item.Item as item
+use Rattle.atomic_table.specs.Seated.{TableId}
 use Rattle.rb_sequence.specs.declared.item.Item.{Item}
 use Rattle.rb_sequence.specs.Items.{own_of}
 use Rattle.rb_intake.specs.Joined.{HasEndedAs}
@@ -61,34 +59,3 @@ Drains p old new = (more : List Item) × (new ≡ old ++ more) × IsAllPulledAnd
 -- what each joined publisher sent was pulled
 abbrev pub IsAllPulled : SequencerKnows → Type 0
 IsAllPulled p = AllByRecursion (λ e. e.1 ≡ own_of e.0 p.pulled) p.ended
-
--- they are stored as their parts
-abbrev pub items_code : Coded (List Item)
-items_code = coded_list item.the_row.coded
-
-abbrev pub intake_code : Coded IntakeSeen
-intake_code = code_by (TableId × ℕ) (coded× table_id_coded coded_ℕ) (λ l. (l.queue, l.capacity))
-    (λ p. record { queue = p.0; capacity = p.1 }) (λ _. refl)
-
-abbrev pub maker_knows_code : Coded MakerKnows
-maker_knows_code = code_by (TableId × ℕ) (coded× table_id_coded coded_ℕ) (λ l. (l.queue, l.made))
-    (λ p. record { queue = p.0; made = p.1 }) (λ _. refl)
-
-abbrev pub publisher_knows_code : Coded PublisherKnows
-publisher_knows_code = code_by (TableId × (ℕ × List Item))
-    (coded× table_id_coded (coded× coded_ℕ items_code))
-    (λ s. (s.queue, (s.publisher, s.sent)))
-    (λ p. record { queue = p.0; publisher = p.1.0; sent = p.1.1 }) (λ _. refl)
-
-abbrev pub sequencer_knows_code : Coded SequencerKnows
-sequencer_knows_code = code_by (TableId × (List Item × List (ℕ × List Item)))
-    (coded× table_id_coded (coded× items_code (coded_list (coded× coded_ℕ items_code))))
-    (λ s. (s.queue, (s.pulled, s.ended)))
-    (λ p. record { queue = p.0; pulled = p.1.0; ended = p.1.1 }) (λ _. refl)
-
-abbrev pub last_knows_code : Coded LastKnows
-last_knows_code = code_by (TableId × (List Item × (List (ℕ × List Item) × ℕ)))
-    (coded× table_id_coded (coded× items_code
-    (coded× (coded_list (coded× coded_ℕ items_code)) coded_ℕ)))
-    (λ s. (s.queue, (s.pulled, (s.ended, s.made))))
-    (λ p. record { queue = p.0; pulled = p.1.0; ended = p.1.1.0; made = p.1.1.1 }) (λ _. refl)

@@ -50,21 +50,17 @@ KeepsOrder waiting views = (h : History) × FitsHistory h waiting views
 
 -- ---- what the kinds of step do to what a pass knows
 
--- one more publisher is made, which has sent nothing
-abbrev pub made_one : Known → Known
-made_one (Makes n) = Makes (suc n)
-made_one v = v
+-- A pass makes another: the first becomes the sequencer's and makes the maker's, and the maker's
+-- makes that of one more publisher, which has sent nothing.
+abbrev pub after_making : Known → Known
+after_making Starts = Pulls [] []
+after_making (Makes n) = Makes (suc n)
+after_making v = v
 
 abbrev pub newcomer : Known → Known
+newcomer Starts = Makes 0
 newcomer (Makes n) = Sends n []
 newcomer v = Spent
-
--- the first pass becomes the sequencer's, and another the maker's
-abbrev pub sequencer_first : Known → Known
-sequencer_first v = Pulls [] []
-
-abbrev pub maker : Known → Known
-maker v = Makes 0
 
 -- an item is sent, or pulled
 abbrev pub sent_one : Known → Item → Known
@@ -76,15 +72,11 @@ pulled_one (Pulls items ended) x = Pulls (items ++ x ∷ []) ended
 pulled_one (Ends items ended n) x = Ends (items ++ x ∷ []) ended n
 pulled_one v x = v
 
--- the sequencer's pass joins a publisher's
+-- the sequencer's pass joins a publisher's, or the maker's
 abbrev pub taken_in : Known → Known → Known
 taken_in (Pulls items ended) (Sends p sent) = Pulls items (ended ++ (p, sent) ∷ [])
+taken_in (Pulls items ended) (Makes n) = Ends items ended n
 taken_in v w = v
-
--- the sequencer's pass joins the maker's
-abbrev pub ended_with_maker : Known → Known → Known
-ended_with_maker (Pulls items ended) (Makes n) = Ends items ended n
-ended_with_maker v w = v
 
 -- ---- what a pass knows, in parts
 

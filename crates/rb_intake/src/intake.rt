@@ -9,7 +9,7 @@ ghost use Rattle.rb_intake.specs.Joined.{HasEndedAs};
 ghost use Rattle.rb_intake.specs.Draining.{PopsLast};
 
 use crate::passes::{LastPass, MakerPass, PublisherPass, SequencerPass};
-use crate::rule::{Begin, Make, Pop, PopLast, Push, Queue, TakeIn, TakeMaker};
+use crate::rule::{Make, Pop, PopLast, Push, Queue, TakeIn};
 use rb_sequence::Item;
 use std::alloc::{AllocError, Global};
 use std::marker::Model;
@@ -24,11 +24,9 @@ pub struct Intake {
 
 impl Model for Intake {
     ghost use Rattle.crossbeam_queue.specs.Passes.{ruled_capacity};
-    ghost use Rattle.rb_intake.specs.Passes.{IntakeSeen, intake_code};
+    ghost use Rattle.rb_intake.specs.Passes.{IntakeSeen};
 
     ghost Value = { IntakeSeen };
-
-    ghost coded = { intake_code };
 
     ghost view = { λ i. record {
       queue = i.queue.table.shared.table_id;
@@ -50,7 +48,7 @@ impl Intake {
         ensures maker { IfOk result (λ r. r.2 ≡ record { queue = r.0.queue; made = 0 }) }
     {
         let (queue, mut seat) = Queue::ruled(alloc, capacity)?;
-        let maker = queue.another::<Begin>(&mut seat);
+        let maker = queue.another::<Make>(&mut seat);
         let intake = Intake { queue };
         Ok((
             intake,
@@ -138,7 +136,7 @@ impl Intake {
         } }
     {
         let mut seat = pass.seat;
-        self.queue.absorb::<TakeMaker>(&mut seat, maker.seat);
+        self.queue.absorb::<TakeIn>(&mut seat, maker.seat);
         LastPass { seat }
     }
 

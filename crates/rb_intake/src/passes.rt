@@ -16,12 +16,10 @@ pub struct MakerPass {
 impl Model for MakerPass {
     ghost use Rattle.std.specs.Prelude.{◌≡◌, []};
     ghost use Rattle.crossbeam_queue.specs.Passes.{view as known};
-    ghost use Rattle.rb_intake.specs.Passes.{MakerKnows, maker_knows_code};
+    ghost use Rattle.rb_intake.specs.Passes.{MakerKnows};
     ghost use Rattle.rb_intake.specs.declared.known.Known.TheVariants.{Makes};
 
     ghost Value = { MakerKnows };
-
-    ghost coded = { maker_knows_code };
 
     ghost view = { λ p. record { queue = p.seat.table_id; made = p.made } };
 
@@ -48,13 +46,11 @@ pub struct PublisherPass {
 impl Model for PublisherPass {
     ghost use Rattle.std.specs.Prelude.{◌≡◌, length, []};
     ghost use Rattle.crossbeam_queue.specs.Passes.{view as known};
-    ghost use Rattle.rb_intake.specs.Passes.{PublisherKnows, publisher_knows_code};
+    ghost use Rattle.rb_intake.specs.Passes.{PublisherKnows};
     ghost use Rattle.rb_intake.specs.Rule.{sent_in};
     ghost use Rattle.rb_intake.specs.declared.known.Known.TheVariants.{Sends};
 
     ghost Value = { PublisherKnows };
-
-    ghost coded = { publisher_knows_code };
 
     ghost view = { λ p. record {
       queue = p.seat.table_id;
@@ -92,14 +88,12 @@ pub struct SequencerPass {
 impl Model for SequencerPass {
     ghost use Rattle.std.specs.Prelude.{◌≡◌, ℕ, []};
     ghost use Rattle.crossbeam_queue.specs.Passes.{view as known};
-    ghost use Rattle.rb_intake.specs.Passes.{SequencerKnows, sequencer_knows_code};
+    ghost use Rattle.rb_intake.specs.Passes.{SequencerKnows};
     ghost use Rattle.rb_intake.specs.Rule.{pulled_in, ended_in};
     ghost use Rattle.rb_intake.specs.declared.known.Known.TheVariants.{Pulls};
     ghost use Rattle.rb_sequence.specs.Items.{CountsUp};
 
     ghost Value = { SequencerKnows };
-
-    ghost coded = { sequencer_knows_code };
 
     ghost view = { λ p. record {
       queue = p.seat.table_id;
@@ -122,13 +116,11 @@ pub struct LastPass {
 impl Model for LastPass {
     ghost use Rattle.std.specs.Prelude.{◌≡◌, []};
     ghost use Rattle.crossbeam_queue.specs.Passes.{view as known};
-    ghost use Rattle.rb_intake.specs.Passes.{LastKnows, last_knows_code};
+    ghost use Rattle.rb_intake.specs.Passes.{LastKnows};
     ghost use Rattle.rb_intake.specs.Rule.{pulled_in, ended_in, made_in};
     ghost use Rattle.rb_intake.specs.declared.known.Known.TheVariants.{Ends};
 
     ghost Value = { LastKnows };
-
-    ghost coded = { last_knows_code };
 
     ghost view = { λ p. record {
       queue = p.seat.table_id;

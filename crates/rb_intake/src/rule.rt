@@ -17,29 +17,19 @@ impl Protocol<Item, Known> for InOrder {
     ghost first = { Starts };
 }
 
-/// The first pass becomes the sequencer's, and the maker's is made.
-pub(crate) struct Begin;
-
-impl Split<Known> for Begin {
-    ghost use Rattle.rb_intake.specs.Rule.{sequencer_first, maker};
-
-    ghost left = { sequencer_first };
-
-    ghost right = { maker };
-}
-
-/// The maker makes a publisher's pass.
+/// A pass makes another: the first becomes the sequencer's and makes the maker's, and the maker's
+/// makes a publisher's.
 pub(crate) struct Make;
 
 impl Split<Known> for Make {
-    ghost use Rattle.rb_intake.specs.Rule.{made_one, newcomer};
+    ghost use Rattle.rb_intake.specs.Rule.{after_making, newcomer};
 
-    ghost left = { made_one };
+    ghost left = { after_making };
 
     ghost right = { newcomer };
 }
 
-/// The sequencer's pass takes in a publisher's.
+/// The sequencer's pass takes in a publisher's, or the maker's: no publisher is made any more then.
 pub(crate) struct TakeIn;
 
 impl Join<Known> for TakeIn {
@@ -47,18 +37,6 @@ impl Join<Known> for TakeIn {
     ghost use Rattle.rb_intake.specs.declared.known.Known.TheVariants.{Spent};
 
     ghost both = { taken_in };
-
-    ghost spent = { Spent };
-}
-
-/// The sequencer's pass takes in the maker's: no publisher is made any more.
-pub(crate) struct TakeMaker;
-
-impl Join<Known> for TakeMaker {
-    ghost use Rattle.rb_intake.specs.Rule.{ended_with_maker};
-    ghost use Rattle.rb_intake.specs.declared.known.Known.TheVariants.{Spent};
-
-    ghost both = { ended_with_maker };
 
     ghost spent = { Spent };
 }

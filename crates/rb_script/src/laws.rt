@@ -3,23 +3,16 @@
 
 ghost use Rattle.std.specs.Prelude.{◌≡◌, ◌++◌, ◌∷◌, [], ℕ, List, Some, None, slice_get};
 ghost use Rattle.std.specs.List.{AllByRecursion};
-ghost use Rattle.rb_desk.specs.IsPicture.{AreInRange};
-ghost use Rattle.rb_desk.specs.Limits.{Limits};
-ghost use Rattle.rb_core.specs.Headline.{KeepsHeadline};
-ghost use Rattle.rb_core.specs.Moves.{HasRun};
-ghost use Rattle.rb_core.specs.Run.{FeedsBytes, Run};
-ghost use Rattle.rb_core.specs.State.{empty_world};
-ghost use Rattle.rb_core.specs.Told.{world_told};
-ghost use Rattle.rb_core.specs.World.{Subscriber};
+ghost use Rattle.rb_desk.specs.{IsPicture.{AreInRange}, Limits.{Limits}};
+ghost use Rattle.rb_core.specs.{Headline.{KeepsHeadline}, Moves.{HasRun}, Run.{FeedsBytes, Run}};
+ghost use Rattle.rb_core.specs.{State.{empty_world}, Told.{world_told}, World.{Subscriber}};
 ghost use Rattle.rb_script.specs.declared.lines.Stage.{Stage};
 ghost use Rattle.rb_script.specs.declared.lines.Stage.TheVariants.{Tables};
 ghost use Rattle.rb_script.specs.declared.answering.Answering.{Answering};
 ghost use Rattle.rb_script.specs.Answering.{answered_lines, lines_reached, numbered_answers};
 ghost use Rattle.rb_script.specs.Answering.{is_refusal, plainly, script_output, script_stop};
-ghost use Rattle.rb_script.specs.ScriptSchema.{schema_of_script};
-ghost use Rattle.rb_script.specs.Lines.{line_answer, world_of};
-ghost use Rattle.rb_script.specs.Output.{answers, first_place, written};
-ghost use Rattle.rb_script.specs.Refusing.{line_refused};
+ghost use Rattle.rb_script.specs.{ScriptSchema.{schema_of_script}, Lines.{line_answer, world_of}};
+ghost use Rattle.rb_script.specs.{Output.{answers, first_place, written}, Refusing.{line_refused}};
 ghost use Rattle.rb_script.specs.Script.{IsLine, ended_lines, lines_answers, lines_events};
 ghost use Rattle.rb_script.specs.Script.{lines_of, lines_replies, stage_after, whole_lines};
 
@@ -76,6 +69,16 @@ pub fn scripts_keep_the_headline()
         (world_of config (stage_after config (Tables []) (lines ++ last ∷ []))) }
 {
     lines_are_answered();
+    lines_keep_the_headline();
+}
+
+// The headline of the events in lines and the replies to them.
+fn lines_keep_the_headline()
+    ensures { (config : Limits) (lines : List (List ℕ)) → AreInRange config
+        → KeepsHeadline (schema_of_script lines) (lines_events lines)
+        (lines_replies config (Tables []) lines)
+        (world_of config (stage_after config (Tables []) lines)) }
+{
     scripts_are_runs();
     scripts_feed_bytes();
     runs_keep_the_headline();
@@ -113,9 +116,7 @@ pub fn answerings_keep_the_headline()
         (world_of config (stage_after config (Tables []) reached)) }
 {
     lines_are_found();
-    scripts_are_runs();
-    scripts_feed_bytes();
-    runs_keep_the_headline();
+    lines_keep_the_headline();
 }
 
 /// An answer begins with `refused` or `fault` exactly if its line is refused or faulty.

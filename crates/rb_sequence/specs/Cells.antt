@@ -1,8 +1,7 @@
 -- The cells of a sequence, and the tokens that show what is in one.
-use Rattle.std.specs.Prelude.{◌≡◌, ℕ, suc, ◌≤◌, List, [], ◌∷◌, refl}
-use Rattle.std.specs.Coded.{Coded, code_by, coded×, coded_ℕ, coded_list}
-use Rattle.boxcar.specs.Slot.{Named, named_coded}
-use Rattle.rb_sequence.specs.Entry.{Entry, entry_code}
+use Rattle.std.specs.Prelude.{◌≡◌, ℕ, suc, ◌≤◌, List, [], ◌∷◌}
+use Rattle.boxcar.specs.Slot.{Named}
+use Rattle.rb_sequence.specs.Entry.{Entry}
 use Rattle.rb_sequence.specs.Segments.{IsLocated, id_at}
 use Rattle.rb_sequence.specs.declared.cells.ReadyError.{ReadyError}
 use Rattle.rb_sequence.specs.declared.cells.ReadyError.TheVariants.{Memory, Occupied}
@@ -71,26 +70,3 @@ AreInCells cells n (t ∷ rest) = IsTokenOf cells t × (t.number ≡ n) × AreIn
 abbrev pub HandsBack : Entry → ReadyError → Type 0
 HandsBack entry (Memory back) = back ≡ entry
 HandsBack entry (Occupied back) = back ≡ entry
-
--- sequences and tokens are stored as their parts
-abbrev pub cells_code : Coded Cells
-cells_code = code_by (ℕ × (List Named × ℕ))
-    (coded× coded_ℕ (coded× (coded_list named_coded) coded_ℕ))
-    (λ s. (s.capacity, (s.segments, s.closing)))
-    (λ p. record { capacity = p.0; segments = p.1.0; closing = p.1.1 })
-    (λ _. refl)
-
-abbrev pub token_code : Coded CellToken
-token_code = code_by (ℕ × (Entry × (ℕ × ℕ)))
-    (coded× coded_ℕ (coded× entry_code (coded× coded_ℕ coded_ℕ)))
-    (λ t. (t.number, (t.entry, (t.segment, t.cell))))
-    (λ p. record { number = p.0; entry = p.1.0; segment = p.1.1.0; cell = p.1.1.1 })
-    (λ _. refl)
-
-abbrev pub last_token_code : Coded LastToken
-last_token_code = code_by (ℕ × ℕ) (coded× coded_ℕ coded_ℕ) (λ t. (t.last, t.cell))
-    (λ p. record { last = p.0; cell = p.1 }) (λ _. refl)
-
-abbrev pub ready_code : Coded ReadyEntry
-ready_code = code_by (Entry × ℕ) (coded× entry_code coded_ℕ) (λ r. (r.entry, r.segment))
-    (λ p. record { entry = p.0; segment = p.1 }) (λ _. refl)

@@ -33,12 +33,10 @@ pub(crate) struct Cells {
 
 impl Model for Cells {
     ghost use Rattle.std.specs.Prelude.{◌≤◌, ◌*◌, length};
-    ghost use Rattle.rb_sequence.specs.Cells.{Cells, cells_code};
+    ghost use Rattle.rb_sequence.specs.Cells.{Cells};
     ghost use Rattle.rb_sequence.specs.Segments.{AreSegments};
 
     ghost Value = { Cells };
-
-    ghost coded = { cells_code };
 
     ghost view = { λ s. record {
       capacity = s.capacity;

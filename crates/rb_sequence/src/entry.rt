@@ -21,11 +21,9 @@ pub struct Entry {
 
 impl Model for Entry {
     ghost use Rattle.cs_write.specs.Own.{IsFormBeside};
-    ghost use Rattle.rb_sequence.specs.Entry.{Entry, entry_code};
+    ghost use Rattle.rb_sequence.specs.Entry.{Entry};
 
     ghost Value = { Entry };
-
-    ghost coded = { entry_code };
 
     ghost view = { λ e. record { number = e.number; item = e.item } };
 

@@ -18,11 +18,9 @@ pub struct Ready {
 
 impl Model for Ready {
     ghost use Rattle.std.specs.Prelude.{◌≡◌, ◌≤◌};
-    ghost use Rattle.rb_sequence.specs.Cells.{ReadyEntry, ready_code};
+    ghost use Rattle.rb_sequence.specs.Cells.{ReadyEntry};
 
     ghost Value = { ReadyEntry };
-
-    ghost coded = { ready_code };
 
     ghost view = { λ r. record { entry = r.entry.value; segment = r.segment.of } };
 

@@ -28,11 +28,9 @@ pub struct Sequence {
 
 impl Model for Sequence {
     ghost use Rattle.std.specs.Arc.{arc_value};
-    ghost use Rattle.rb_sequence.specs.Cells.{Cells, cells_code};
+    ghost use Rattle.rb_sequence.specs.Cells.{Cells};
 
     ghost Value = { Cells };
-
-    ghost coded = { cells_code };
 
     ghost view = { λ s. arc_value s.cells };
 }
@@ -46,11 +44,9 @@ pub struct Preparer {
 
 impl Model for Preparer {
     ghost use Rattle.std.specs.Arc.{arc_value};
-    ghost use Rattle.rb_sequence.specs.Cells.{Cells, cells_code};
+    ghost use Rattle.rb_sequence.specs.Cells.{Cells};
 
     ghost Value = { Cells };
-
-    ghost coded = { cells_code };
 
     ghost view = { λ s. arc_value s.cells };
 }
@@ -63,11 +59,9 @@ pub struct Filler {
 
 impl Model for Filler {
     ghost use Rattle.std.specs.Arc.{arc_value};
-    ghost use Rattle.rb_sequence.specs.Cells.{Cells, cells_code};
+    ghost use Rattle.rb_sequence.specs.Cells.{Cells};
 
     ghost Value = { Cells };
-
-    ghost coded = { cells_code };
 
     ghost view = { λ s. arc_value s.cells };
 }

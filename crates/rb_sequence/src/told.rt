@@ -20,12 +20,10 @@ pub struct Told {
 
 impl Model for Told {
     ghost use Rattle.std.specs.Prelude.{◌≡◌, ◌≤◌, ℕ};
-    ghost use Rattle.rb_sequence.specs.Cells.{CellToken, token_code};
+    ghost use Rattle.rb_sequence.specs.Cells.{CellToken};
     ghost use Rattle.rb_sequence.specs.Segments.{IsLocated, id_at};
 
     ghost Value = { CellToken };
-
-    ghost coded = { token_code };
 
     ghost view = { λ t. record {
       number = t.number;
@@ -78,11 +76,9 @@ pub struct ToldLast {
 
 impl Model for ToldLast {
     ghost use Rattle.std.specs.Prelude.{◌≡◌};
-    ghost use Rattle.rb_sequence.specs.Cells.{LastToken, last_token_code};
+    ghost use Rattle.rb_sequence.specs.Cells.{LastToken};
 
     ghost Value = { LastToken };
-
-    ghost coded = { last_token_code };
 
     ghost view = { λ t. record { last = t.last; cell = t.written.of } };
 

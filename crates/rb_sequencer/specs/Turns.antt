@@ -1,12 +1,9 @@
 -- The sequencer's state, and what a turn does to it.
 use Rattle.std.specs.Prelude.{◌≡◌, ℕ, zero, suc, List, [], ◌∷◌, ◌++◌, length, map, Option, Some}
 use Rattle.std.specs.Prelude.{None}
-use Rattle.std.specs.Prelude.{slice_get, ◌⊎◌, refl}
-use Rattle.std.specs.Coded.{Coded, code_by, coded×, coded_list, coded_option}
-use Rattle.rb_sequence.specs.Cells.{Cells, CellToken, IsTokenOf, token_code}
-use Rattle.rb_sequence.specs.contracts.item.Item as item
+use Rattle.std.specs.Prelude.{slice_get, ◌⊎◌}
+use Rattle.rb_sequence.specs.Cells.{Cells, CellToken, IsTokenOf}
 use Rattle.rb_sequence.specs.declared.item.Item.{Item}
-use Rattle.rb_intake.specs.Passes.{items_code}
 use Rattle.rb_broker.specs.Placing.{DeskRefuses, ShowsWhy}
 use Rattle.rb_sequencer.specs.declared.turn.Turn.{Turn}
 use Rattle.rb_sequencer.specs.declared.turn.Turn.TheVariants.{Placed, Idle, Refused}
@@ -47,13 +44,6 @@ IsTurn cells old new (Placed told) = (mid : SequencerState) × TakesUp old.hand 
 IsTurn cells old new Idle = (old.hand ≡ None) × (new ≡ old)
 IsTurn cells old new (Refused why) = TakesUp old.hand old new × ShowsWhy cells why
     × DeskRefuses cells why
-
--- it is stored as its parts
-abbrev pub sequencer_code : Coded SequencerState
-sequencer_code = code_by (List Item × (List CellToken × Option Item))
-    (coded× items_code (coded× (coded_list token_code) (coded_option item.the_row.coded)))
-    (λ s. (s.pulled, (s.placed, s.hand)))
-    (λ p. record { pulled = p.0; placed = p.1.0; hand = p.1.1 }) (λ _. refl)
 
 -- ---- the two halves of a turn
 

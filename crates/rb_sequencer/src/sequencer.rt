@@ -29,11 +29,8 @@ impl<L: Hall> Model for Sequencer<L> {
     ghost use Rattle.rb_sequence.specs.Items.{CountsUp};
     ghost use Rattle.rb_sequence.specs.Cells.{AreInCells};
     ghost use Rattle.rb_sequencer.specs.Turns.{SequencerState, in_hand, items_placed};
-    ghost use Rattle.rb_sequencer.specs.Turns.{sequencer_code};
 
     ghost Value = { SequencerState };
-
-    ghost coded = { sequencer_code };
 
     ghost view = { λ s. record {
       pulled = s.pass.pulled;

@@ -1,11 +1,8 @@
 //! Formats rows as SQL literals.
 
-ghost use Rattle.std.specs.Prelude.{◌≡◌, ◌++◌, ◌==◌, ◌&&◌, true, false, not, nat_le};
-ghost use Rattle.std.specs.Prelude.{IfOk, MatchOption, OnOk};
-ghost use Rattle.std.specs.List.{flat_map, list_all};
-ghost use Rattle.std.specs.Str.{is_utf8};
-ghost use Rattle.cs_model.specs.Row.{values_of};
-ghost use Rattle.cs_model.specs.Seen.{field_seen};
+ghost use Rattle.std.specs.Prelude.{◌≡◌, ◌++◌, ◌==◌, ◌&&◌, true, false, not, nat_le, IfOk};
+ghost use Rattle.std.specs.{Prelude.{MatchOption, OnOk}, List.{flat_map, list_all}, Str.{is_utf8}};
+ghost use Rattle.cs_model.specs.{Row.{values_of}, Seen.{field_seen}};
 ghost use Rattle.rb_show.specs.Shown.{blob_literal, is_printable, literals, name_shown};
 ghost use Rattle.rb_show.specs.Shown.{quote_doubled, sql_line, text_literal};
 ghost use Rattle.rb_show.specs.ShownTexts.{field_literal, field_shown};

@@ -2,7 +2,8 @@
 -- the middle of it.
 use Rattle.std.specs.Prelude.{◌≡◌, ◌⊎◌, ℕ, suc, ◌-◌, ◌≤◌, Bool, true, false, not, List, [], ◌∷◌}
 use Rattle.std.specs.Prelude.{take, drop}
-use Rattle.std.specs.Prelude.{Option, Some, None, Result, Ok, Err, ◌==◌, nat_le, if◌then◌else◌}
+use Rattle.std.specs.Prelude.{Option, Some, None, Result, Ok, Err, OnOk, ◌==◌, nat_le}
+use Rattle.std.specs.Prelude.{if◌then◌else◌}
 use Rattle.std.specs.List.{flat_map, AllByRecursion}
 use Rattle.cs_model.specs.declared.shape.Shape.{Shape}
 use Rattle.cs_model.specs.Schema.{refusal_of}
@@ -177,6 +178,10 @@ AppliesSingly old (entry ∷ entries) new = (mid : tables.TableState)
 abbrev pub HasSingleTables : tables.TableState → List Entry → tables.TableState → Type 0
 HasSingleTables first entries now = (tables : tables.TableState) → AppliesSingly first entries tables
     → now ≡ tables
+
+-- a call of an endpoint that returned `Ok` left such tables
+abbrev pub LeavesSingly : {T E : Type 0} → Result T E → Endpoint → List Entry → Endpoint → Type 0
+LeavesSingly result old entries new = OnOk result (HasSingleTables old.tables entries new.tables)
 
 -- bodies applied one after another, of which one conflicts: those before it apply, and it doesn't
 abbrev pub ConflictsSingly : tables.TableState → List Entry → Type 0

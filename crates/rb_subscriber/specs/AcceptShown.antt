@@ -36,16 +36,17 @@ DueAnswers cells delivery (Err Memory) old new = (new ≡ old)
     × (shown : List CellToken) × ShowDelivery cells delivery shown
     × AsksTables (accept_brought (own_endpoint old) (entries_told shown) delivery)
 
--- what it returns for any delivery
-abbrev pub answers_by : Option AcceptRefusal → Cells → Delivery → Result ℕ SubscriptionError
+-- what it returns for any delivery: the refusal that asks nothing of its entries, or else this
+abbrev pub RefusesFirst : Option AcceptRefusal → Type 0 → Result ℕ SubscriptionError
     → SubscriptionState → SubscriptionState → Type 0
-answers_by None cells delivery result old new = DueAnswers cells delivery result old new
-answers_by (Some why) cells delivery result old new = (result ≡ Err (Refused why)) × (new ≡ old)
+RefusesFirst None Answers result old new = Answers
+RefusesFirst (Some why) Answers result old new = (result ≡ Err (Refused why)) × (new ≡ old)
 
 abbrev pub ShownAnswers : Cells → Delivery → Result ℕ SubscriptionError → SubscriptionState
     → SubscriptionState → Type 0
 ShownAnswers cells delivery result old new =
-    answers_by (refusal_before (own_endpoint old) delivery) cells delivery result old new
+    RefusesFirst (refusal_before (own_endpoint old) delivery)
+    (DueAnswers cells delivery result old new) result old new
 
 -- a conflict comes only if what the cells show conflicts too when it is applied one after another
 abbrev pub ConflictsShown : Cells → Delivery → TableState → Result ℕ SubscriptionError → Type 0

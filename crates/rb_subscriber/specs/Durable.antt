@@ -16,7 +16,7 @@ use Rattle.rb_sequence.specs.Cells.{AreInCells, Cells, CellToken}
 use Rattle.rb_sequence.specs.Entry.{Entry}
 use Rattle.rb_subscriber.specs.Accept.{AsksTables, HasSingleTables, accept_brought, joined_bodies}
 use Rattle.rb_subscriber.specs.Accept.{refusal_before}
-use Rattle.rb_subscriber.specs.AcceptShown.{DueAnswers}
+use Rattle.rb_subscriber.specs.AcceptShown.{DueAnswers, RefusesFirst}
 use Rattle.rb_subscriber.specs.Endpoint.{Endpoint}
 use Rattle.rb_subscriber.specs.Shown.{ShowDelivery, entries_told}
 use Rattle.rb_subscriber.specs.Subscription.{PendingAccept, SubscriptionState, own_endpoint}
@@ -119,8 +119,8 @@ KeptAnswers cells delivery result old new = DueAnswers cells delivery result old
 -- what it returns for any delivery; `Store` comes first of all if it has fallen already
 abbrev pub durable_by : Option AcceptRefusal → Cells → Delivery → Result ℕ SubscriptionError
     → SubscriptionState → SubscriptionState → Type 0
-durable_by None cells delivery result old new = KeptAnswers cells delivery result old new
-durable_by (Some why) cells delivery result old new = (result ≡ Err (Refused why)) × (new ≡ old)
+durable_by before cells delivery result old new =
+    RefusesFirst before (KeptAnswers cells delivery result old new) result old new
 
 abbrev pub DurableAnswers : Cells → Delivery → Result ℕ SubscriptionError → SubscriptionState
     → SubscriptionState → Type 0

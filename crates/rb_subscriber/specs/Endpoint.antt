@@ -1,6 +1,5 @@
 -- A subscriber's endpoint as a value.
-use Rattle.std.specs.Prelude.{ℕ, Bool, false, refl}
-use Rattle.std.specs.Coded.{Coded, code_by, coded×, coded_ℕ, coded_bool}
+use Rattle.std.specs.Prelude.{ℕ, Bool, false}
 use Rattle.cs_apply.specs.State as tables
 
 -- An endpoint: the number after which it began, its cursor, its current link, whether it is closed,
@@ -25,20 +24,3 @@ new_endpoint start link tables = record {
   fallen = false;
   tables = tables;
 }
-
--- an endpoint is stored as its parts
-abbrev pub endpoint_code : Coded Endpoint
-endpoint_code =
-    code_by (ℕ × (ℕ × (ℕ × (Bool × (Bool × tables.TableState)))))
-    (coded× coded_ℕ (coded× coded_ℕ (coded× coded_ℕ (coded× coded_bool
-    (coded× coded_bool tables.state_code)))))
-    (λ e. (e.start, (e.cursor, (e.link, (e.closed, (e.fallen, e.tables))))))
-    (λ p. record {
-      start = p.0;
-      cursor = p.1.0;
-      link = p.1.1.0;
-      closed = p.1.1.1.0;
-      fallen = p.1.1.1.1.0;
-      tables = p.1.1.1.1.1;
-    })
-    (λ _. refl)

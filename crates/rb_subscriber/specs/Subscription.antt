@@ -1,14 +1,10 @@
 -- A subscription as a value.
-use Rattle.std.specs.Prelude.{ℕ, ◌+◌, ◌-◌, suc, Bool, List, [], false, length, refl}
+use Rattle.std.specs.Prelude.{ℕ, ◌+◌, ◌-◌, suc, Bool, List, [], false, length}
 use Rattle.std.specs.Prelude.{Option, None, slice_get, if◌then◌else◌, nat_lt}
-use Rattle.std.specs.Coded.{Coded, code_by, coded×, coded_ℕ, coded_bool, coded_list}
-use Rattle.std.specs.Coded.{coded_option}
 use Rattle.std.specs.Option.{is_some}
 use Rattle.cs_apply.specs.State as tables
-use Rattle.cs_model.specs.contracts.value.Value as value
-use Rattle.cs_model.specs.Key.{row_key_code}
 use Rattle.par_apply.specs.RowChanges.{RowChanges}
-use Rattle.rb_sequence.specs.Cells.{CellToken, token_code}
+use Rattle.rb_sequence.specs.Cells.{CellToken}
 use Rattle.rb_subscriber.specs.Endpoint.{Endpoint}
 
 -- What a durable store may have beyond a subscription that fell: the entries of the delivery that
@@ -64,35 +60,3 @@ new_subscription sub start link tables = record {
 abbrev pub accepted_token : ℕ → List CellToken → ℕ → Option CellToken
 accepted_token start told number =
     if nat_lt start number then slice_get told (number - suc start) else None
-
--- a subscription is stored as its parts
-abbrev pub changes_code : Coded RowChanges
-changes_code = coded_list (coded× row_key_code (coded_option (coded_list value.the_row.coded)))
-
-abbrev pub pending_code : Coded PendingAccept
-pending_code = code_by (List CellToken × RowChanges) (coded× (coded_list token_code) changes_code)
-    (λ p. (p.tokens, p.changes)) (λ p. record { tokens = p.0; changes = p.1 }) (λ _. refl)
-
-abbrev pub subscription_state_code : Coded SubscriptionState
-subscription_state_code =
-    code_by (ℕ × (ℕ × (ℕ × (Bool × (tables.TableState × (tables.TableState
-    × (List CellToken × (Option PendingAccept × ℕ))))))))
-    (coded× coded_ℕ (coded× coded_ℕ (coded× coded_ℕ (coded× coded_bool
-    (coded× tables.state_code (coded× tables.state_code (coded× (coded_list token_code)
-    (coded× (coded_option pending_code) coded_ℕ))))))))
-    (λ s. (
-      s.sub,
-      (s.start, (s.link, (s.closed, (s.base, (s.tables, (s.told, (s.pending, s.steps))))))),
-    ))
-    (λ p. record {
-      sub = p.0;
-      start = p.1.0;
-      link = p.1.1.0;
-      closed = p.1.1.1.0;
-      base = p.1.1.1.1.0;
-      tables = p.1.1.1.1.1.0;
-      told = p.1.1.1.1.1.1.0;
-      pending = p.1.1.1.1.1.1.1.0;
-      steps = p.1.1.1.1.1.1.1.1;
-    })
-    (λ _. refl)

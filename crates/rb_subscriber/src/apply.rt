@@ -1,16 +1,17 @@
 //! The bodies of entries: which the tables don't admit, their group, and applying it to tables.
 
-ghost use Rattle.std.specs.Prelude.{◌≡◌, ◌∷◌, [], true, false, Ok, OnOk, OnErr, IfOk, IfErr};
-ghost use Rattle.std.specs.Prelude.{◌++◌, IfNone, IfSome, None};
-ghost use Rattle.std.specs.List.{AllByRecursion};
-ghost use Rattle.std.specs.Option.{option_copied};
-ghost use Rattle.cs_apply.specs.Errors.{ReportsConflict};
-ghost use Rattle.cs_apply.specs.Single.{single};
+ghost use Rattle.std.specs.{
+  Prelude.{◌≡◌, ◌∷◌, [], true, false, Ok, OnOk, OnErr, IfOk, IfErr, ◌++◌, IfNone, IfSome, None},
+  List.{AllByRecursion},
+  Option.{option_copied},
+};
+ghost use Rattle.cs_apply.specs.{Errors.{ReportsConflict}, Single.{single}};
 ghost use Rattle.cs_group.specs.Group.{group_of};
 ghost use Rattle.cs_model.specs.Schema.{refusal_of};
-ghost use Rattle.rb_subscriber.specs.Accept.{AreChangesets, IsAdmitted, first_outside_entry};
-ghost use Rattle.rb_subscriber.specs.Accept.{joined_bodies};
-ghost use Rattle.rb_subscriber.specs.Applier.{Applies};
+ghost use Rattle.rb_subscriber.specs.{
+  Accept.{AreChangesets, IsAdmitted, first_outside_entry, joined_bodies},
+  Applier.{Applies},
+};
 
 use crate::applier::apply_by;
 use crate::brought::Brought;
@@ -76,20 +77,23 @@ fn add<'a>(schema: &Schema, group: &mut Group<'a>, body: &'a Changeset) -> Resul
     }
 }
 
-// Applies a body as it is. If it doesn't conflict, the tables are those that its group leaves. An
-// `Err` does not change the tables, nor does a conflict.
-fn applies_alone<F: Fn(&mut Tables, &Changeset) -> Result<(), ApplyError>>(
+// Applies a single body as it is. If it doesn't conflict, the tables are those that its group
+// leaves. Otherwise the tables don't change.
+fn applies_alone<E: Brought, F: Fn(&mut Tables, &Changeset) -> Result<(), ApplyError>>(
     applier: &F,
     tables: &mut Tables,
-    entry: &Entry,
+    entries: &E,
 ) -> Result<bool, AllocError>
     requires { Applies F.Fn applier.now }
     ensures applied { IfOk result (λ applied. applied ≡ true
-        → single tables.old (group_of (joined_bodies (entry.now ∷ []))) ≡ Ok tables.new) }
+        → single tables.old (group_of (joined_bodies (E.entries entries.now))) ≡ Ok tables.new) }
     ensures conflict { IfOk result (λ applied. applied ≡ false → tables.new ≡ tables.old) }
     ensures err { OnErr result (tables.new ≡ tables.old) }
 {
     groups_apply();
+    let Some(entry) = only(entries) else {
+        return Ok(false);
+    };
     // for what their clauses say: each row has its columns, and the body is a changeset
     let (_schema, _sections) = (tables.schema(), entry.body().iter());
     match apply_by(applier, tables, entry.body()) {
@@ -97,28 +101,6 @@ fn applies_alone<F: Fn(&mut Tables, &Changeset) -> Result<(), ApplyError>>(
         Err(ApplyError::Conflict(_)) => return Ok(false),
         Err(ApplyError::Memory) => return Err(AllocError),
     }
-}
-
-// Applies the group of the bodies of entries.
-fn apply_group<E: Brought, F: Fn(&mut Tables, &Changeset) -> Result<(), ApplyError>>(
-    applier: &F,
-    alloc: Global,
-    tables: &mut Tables,
-    entries: &E,
-) -> Result<(), ApplyError>
-    requires applier { Applies F.Fn applier.now }
-    requires admitted { AllByRecursion (IsAdmitted tables.old.schema) (E.entries entries.now) }
-    ensures ok { OnOk result (single tables.old (group_of (joined_bodies (E.entries entries.now)))
-        ≡ Ok tables.new) }
-    ensures refused { IfErr result
-        (λ e. ReportsConflict e
-        (single tables.old (group_of (joined_bodies (E.entries entries.now))))) }
-    ensures err { OnErr result (tables.new ≡ tables.old) }
-{
-    let Ok(changeset) = combined(alloc, tables.schema(), entries) else {
-        return Err(ApplyError::Memory);
-    };
-    apply_by(applier, tables, &changeset)
 }
 
 /// The entry, if it is the only one.
@@ -149,12 +131,13 @@ pub(crate) fn apply<E: Brought, F: Fn(&mut Tables, &Changeset) -> Result<(), App
         (single tables.old (group_of (joined_bodies (E.entries entries.now))))) }
     ensures err { OnErr result (tables.new ≡ tables.old) }
 {
-    let Some(entry) = only(entries) else {
-        return apply_group(applier, alloc, tables, entries);
-    };
-    match applies_alone(applier, tables, entry) {
+    match applies_alone(applier, tables, entries) {
         Ok(true) => return Ok(()),
-        Ok(false) => return apply_group(applier, alloc, tables, entries),
+        Ok(false) => {}
         Err(_) => return Err(ApplyError::Memory),
     }
+    let Ok(changeset) = combined(alloc, tables.schema(), entries) else {
+        return Err(ApplyError::Memory);
+    };
+    apply_by(applier, tables, &changeset)
 }

@@ -2,13 +2,15 @@
 
 ghost use Rattle.std.specs.Prelude.{◌≡◌, ◌≤◌, ◌<◌, ◌-◌, suc, true, false, length, IfNone, IfSome};
 ghost use Rattle.std.specs.Prelude.{OnOk};
+ghost use Rattle.std.specs.Coded.{codes};
 ghost use Rattle.cs_apply.specs.Columns.{HaveColumns};
+ghost use Rattle.cs_apply.specs.State.{state_code};
 ghost use Rattle.rb_subscriber.specs.Accept.{accept, accept_brought, AcceptAnswers, AppliesSingly};
 ghost use Rattle.rb_subscriber.specs.Accept.{AreChangesets, AsksNoEntries, refusal_before};
 ghost use Rattle.rb_subscriber.specs.Accept.{brought, ConflictsSingly, HasSingleTables, OnConflict};
-ghost use Rattle.rb_subscriber.specs.Accept.{crash, fallen_unless_refused, part};
+ghost use Rattle.rb_subscriber.specs.Accept.{crash, fallen_unless_refused, part, LeavesSingly};
 ghost use Rattle.rb_subscriber.specs.Applier.{Applies, IsApplied};
-ghost use Rattle.rb_subscriber.specs.Endpoint.{new_endpoint};
+ghost use Rattle.rb_subscriber.specs.Endpoint.{Endpoint, new_endpoint};
 
 use crate::apply::{apply, outside};
 use crate::brought::Brought;
@@ -34,12 +36,9 @@ pub struct Endpoint {
 }
 
 impl Model for Endpoint {
-    ghost use Rattle.std.specs.Prelude.{◌≤◌};
-    ghost use Rattle.rb_subscriber.specs.Endpoint.{Endpoint, endpoint_code};
-
     ghost Value = { Endpoint };
 
-    ghost coded = { endpoint_code };
+    ghost coded = { Prim.hlevel (codes, state_code) };
 
     ghost view = { λ e. record {
       start = e.start;
@@ -179,8 +178,7 @@ impl Endpoint {
     ) -> Result<u64, AcceptError>
         ensures answers { AcceptAnswers result (fallen_unless_refused true self.old
             (accept_brought self.old (E.entries entries.now) delivery.now)) self.old self.new }
-        ensures singly { OnOk result
-            (HasSingleTables self.old.tables (E.entries entries.now) self.new.tables) }
+        ensures singly { LeavesSingly result self.old (E.entries entries.now) self.new }
         ensures conflicts { OnConflict result
             (ConflictsSingly self.old.tables (E.entries entries.now)) }
     {
@@ -269,8 +267,7 @@ impl Endpoint {
         requires { Applies F.Fn applier.now }
         ensures answers { AcceptAnswers result
             (accept_brought self.old (E.entries entries.now) delivery.now) self.old self.new }
-        ensures singly { OnOk result
-            (HasSingleTables self.old.tables (E.entries entries.now) self.new.tables) }
+        ensures singly { LeavesSingly result self.old (E.entries entries.now) self.new }
         ensures conflicts { OnConflict result
             (ConflictsSingly self.old.tables (E.entries entries.now)) }
     {

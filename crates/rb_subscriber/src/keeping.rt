@@ -1,23 +1,43 @@
 //! An endpoint that accepts into a durable store: the store commits first, then the tables.
 
-ghost use Rattle.std.specs.Prelude.{◌≡◌, ◌≤◌, ◌∷◌, [], true, false, Ok, OnOk, IfErr, IfOk, IfSome};
-ghost use Rattle.std.specs.List.{AllByRecursion, IsDistinct};
-ghost use Rattle.std.specs.Map.{keys_of};
-ghost use Rattle.cs_apply.specs.declared.conflict.ApplyError.TheVariants.{Memory};
-ghost use Rattle.cs_apply.specs.Columns.{HaveColumns};
-ghost use Rattle.cs_apply.specs.Errors.{ReportsConflict};
-ghost use Rattle.cs_apply.specs.SameKey.{same_key};
-ghost use Rattle.cs_apply.specs.Single.{single};
+ghost use Rattle.std.specs.{
+  Prelude.{◌≡◌, ◌≤◌, ◌∷◌, [], true, false, Ok, OnOk, IfErr, IfOk, IfSome},
+  List.{AllByRecursion, IsDistinct},
+  Map.{keys_of},
+};
+ghost use Rattle.cs_apply.specs.{
+  declared.conflict.ApplyError.TheVariants.{Memory},
+  Columns.{HaveColumns},
+  Errors.{ReportsConflict},
+  SameKey.{same_key},
+  Single.{single},
+};
 ghost use Rattle.cs_group.specs.Group.{group_of};
-ghost use Rattle.par_apply.specs.Durable.{changed_tables};
-ghost use Rattle.par_apply.specs.Planned.{RowsFit, planned_changes};
-ghost use Rattle.par_apply.specs.RowChanges.{overlaid};
-ghost use Rattle.rb_subscriber.specs.Accept.{AreChangesets, ConflictsSingly, HasSingleTables};
-ghost use Rattle.rb_subscriber.specs.Accept.{IsAdmitted};
-ghost use Rattle.rb_subscriber.specs.Accept.{accept_brought, joined_bodies};
-ghost use Rattle.rb_subscriber.specs.Durable.{IfStoreFailed, IfStoreUnasked, KeepAnswers};
-ghost use Rattle.rb_subscriber.specs.Durable.{IsNoRefusal, OnKeepConflict, OnKeepTables};
-ghost use Rattle.rb_subscriber.specs.Durable.{PlansGroup};
+ghost use Rattle.par_apply.specs.{
+  Durable.{changed_tables},
+  Planned.{RowsFit, planned_changes},
+  RowChanges.{overlaid},
+};
+ghost use Rattle.rb_subscriber.specs.{
+  Accept.{
+    AreChangesets,
+    ConflictsSingly,
+    HasSingleTables,
+    IsAdmitted,
+    LeavesSingly,
+    accept_brought,
+    joined_bodies,
+  },
+  Durable.{
+    IfStoreFailed,
+    IfStoreUnasked,
+    KeepAnswers,
+    IsNoRefusal,
+    OnKeepConflict,
+    OnKeepTables,
+    PlansGroup,
+  },
+};
 
 use crate::applier::Workers;
 use crate::apply::{combined, only, outside};
@@ -62,8 +82,7 @@ impl Endpoint {
             → S.keeps store.old self.old.tables.rows self.old.cursor }
         ensures answers { KeepAnswers result
             (accept_brought self.old (E.entries entries.now) delivery.now) self.old self.new }
-        ensures singly { OnOk result
-            (HasSingleTables self.old.tables (E.entries entries.now) self.new.tables) }
+        ensures singly { LeavesSingly result self.old (E.entries entries.now) self.new }
         ensures conflicts { OnKeepConflict result
             (ConflictsSingly self.old.tables (E.entries entries.now)) }
         ensures fit { IfStoreFailed result (λ plan.

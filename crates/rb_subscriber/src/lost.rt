@@ -1,9 +1,11 @@
 //! `Lost`: a subscription that fell, until it is resumed.
 
-ghost use Rattle.std.specs.Prelude.{◌≡◌, ◌<◌, IsSome, IfOk};
-ghost use Rattle.std.specs.Bool.{Decides};
-ghost use Rattle.rb_subscriber.specs.Lost.{FitsLost, cursor_after, gone_on};
-ghost use Rattle.rb_subscriber.specs.Subscription.{cursor_of};
+ghost use Rattle.std.specs.{Prelude.{◌≡◌, ◌<◌, IsSome, IfOk}, Bool.{Decides}, Coded.{codes}};
+ghost use Rattle.cs_apply.specs.State.{state_code};
+ghost use Rattle.rb_subscriber.specs.{
+  Lost.{FitsLost, cursor_after, gone_on},
+  Subscription.{SubscriptionState, cursor_of},
+};
 
 use crate::step_ledger::StepLedger;
 use crate::subscription::Subscription;
@@ -20,13 +22,9 @@ pub struct Lost<L: StepLedger> {
 }
 
 impl<L: StepLedger> Model for Lost<L> {
-    ghost use Rattle.std.specs.Prelude.{IsSome};
-    ghost use Rattle.rb_subscriber.specs.Subscription.{SubscriptionState};
-    ghost use Rattle.rb_subscriber.specs.Subscription.{subscription_state_code};
-
     ghost Value = { SubscriptionState };
 
-    ghost coded = { subscription_state_code };
+    ghost coded = { Prim.hlevel (codes, state_code) };
 
     ghost view = { λ l. l.subscription };
 

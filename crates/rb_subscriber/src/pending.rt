@@ -26,11 +26,9 @@ pub(crate) struct Pending {
 
 impl Model for Pending {
     ghost use Rattle.par_apply.specs.Planned.{planned_changes};
-    ghost use Rattle.rb_subscriber.specs.Subscription.{PendingAccept, pending_code};
+    ghost use Rattle.rb_subscriber.specs.Subscription.{PendingAccept};
 
     ghost Value = { PendingAccept };
-
-    ghost coded = { pending_code };
 
     ghost view = { λ p. record { tokens = p.told.items; changes = planned_changes p.plan } };
 }

@@ -30,11 +30,9 @@ pub struct Register<L: StepLedger> {
 
 impl<L: StepLedger> Model for Register<L> {
     ghost use Rattle.std.specs.Prelude.{◌≡◌, ◌+◌, ◌<◌, ◌^◌};
-    ghost use Rattle.rb_subscriber.specs.Register.{RegisterState, register_code};
+    ghost use Rattle.rb_subscriber.specs.Register.{RegisterState};
 
     ghost Value = { RegisterState };
-
-    ghost coded = { register_code };
 
     ghost view = { λ r. record { total = r.book.total; made = r.made } };
 
@@ -52,11 +50,9 @@ pub struct Auditor<L: StepLedger> {
 
 impl<L: StepLedger> Model for Auditor<L> {
     ghost use Rattle.std.specs.Prelude.{◌≡◌};
-    ghost use Rattle.rb_subscriber.specs.Register.{AuditorState, auditor_code};
+    ghost use Rattle.rb_subscriber.specs.Register.{AuditorState};
 
     ghost Value = { AuditorState };
-
-    ghost coded = { auditor_code };
 
     ghost view = { λ a. record { sum = a.sum; heard = a.heard } };
 

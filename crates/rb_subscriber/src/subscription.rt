@@ -1,15 +1,19 @@
 //! `Subscription`: what one thread accepts of the cells, and the tokens that show it.
 
-ghost use Rattle.std.specs.Prelude.{◌≡◌, ◌<◌, suc, true, None, IfNone, IfSome};
-ghost use Rattle.std.specs.Option.{is_some, option_copied};
+ghost use Rattle.std.specs.{
+  Prelude.{◌≡◌, ◌<◌, suc, true, None, IfNone, IfSome},
+  Option.{is_some, option_copied},
+  Thread.{IsSync},
+};
 ghost use Rattle.rb_sequence.specs.Cells.{AreInCells, IsTokenOf};
-ghost use Rattle.rb_subscriber.specs.Accept.{AsksNoEntries, HasSingleTables, refusal_before};
-ghost use Rattle.std.specs.Thread.{IsSync};
-ghost use Rattle.rb_subscriber.specs.Applier.{Applies, IsApplied};
-ghost use Rattle.rb_subscriber.specs.AcceptShown.{ShownAnswers, ConflictsShown, DueAnswers};
-ghost use Rattle.rb_subscriber.specs.Durable.{IsPendingOver};
-ghost use Rattle.rb_subscriber.specs.Shown.{entries_told};
-ghost use Rattle.rb_subscriber.specs.Subscription.{cursor_of, own_endpoint, accepted_token};
+ghost use Rattle.rb_subscriber.specs.{
+  Accept.{AsksNoEntries, HasSingleTables, refusal_before},
+  Applier.{Applies, IsApplied},
+  AcceptShown.{ShownAnswers, ConflictsShown, DueAnswers},
+  Durable.{IsPendingOver},
+  Shown.{entries_told},
+  Subscription.{cursor_of, own_endpoint, accepted_token},
+};
 
 use crate::applier::Workers;
 use crate::endpoint::Endpoint;
@@ -44,18 +48,24 @@ pub struct Subscription<L: StepLedger> {
 }
 
 impl<L: StepLedger> Model for Subscription<L> {
-    ghost use Rattle.std.specs.Prelude.{◌≡◌, ◌<◌, ◌≤◌, ◌+◌, ◌^◌, suc, length, IfSome};
-    ghost use Rattle.std.specs.Option.{is_some};
-    ghost use Rattle.std.specs.Vec.{vec_capacity, vec_len};
+    ghost use Rattle.std.specs.{
+      Prelude.{◌≡◌, ◌<◌, ◌≤◌, ◌+◌, ◌^◌, suc, length, IfSome},
+      Coded.{codes},
+      Option.{is_some},
+      Vec.{vec_capacity, vec_len},
+    };
+    ghost use Rattle.cs_apply.specs.State.{state_code};
     ghost use Rattle.rb_sequence.specs.Cells.{AreInCells};
-    ghost use Rattle.rb_subscriber.specs.Accept.{HasSingleTables};
-    ghost use Rattle.rb_subscriber.specs.Durable.{IsPendingOver};
-    ghost use Rattle.rb_subscriber.specs.Shown.{entries_told};
-    ghost use Rattle.rb_subscriber.specs.Subscription.{SubscriptionState, subscription_state_code};
+    ghost use Rattle.rb_subscriber.specs.{
+      Accept.{HasSingleTables},
+      Durable.{IsPendingOver},
+      Shown.{entries_told},
+      Subscription.{SubscriptionState},
+    };
 
     ghost Value = { SubscriptionState };
 
-    ghost coded = { subscription_state_code };
+    ghost coded = { Prim.hlevel (codes, state_code) };
 
     ghost view = { λ s. record {
       sub = s.sub;

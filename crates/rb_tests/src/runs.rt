@@ -135,26 +135,20 @@ const CHANGES: u32 = 2_000;
 
 const LINES: u32 = 50;
 
-// `CHANGES` INSERTs, with keys from `first` on, in hexadecimal
-fn push_changes(alloc: Global, text: &mut Vec<u8>, first: u32) -> Result<(), Fail>
-    requires { first < 1000000 }
-{
-    for i in 0..CHANGES {
-        let number = first + i;
-        let change = format!(in alloc; "120001{number:016x}030178")?;
-        text.extend_from_slice(change.as_bytes())?;
-    }
-    Ok(())
-}
+// what stands before the key of each INSERT and after it, and of each row's answer line
+const CHANGE: [&str; 2] = ["120001", "030178"];
 
-// the answer lines of their rows
-fn push_rows(alloc: Global, answers: &mut Vec<u8>, first: u32) -> Result<(), Fail>
+const ROW: [&str; 2] = ["row 0 01", " 030178\n"];
+
+// `CHANGES` changes or rows, with keys from `first` on, in hexadecimal
+fn push_keys(alloc: Global, text: &mut Vec<u8>, first: u32, around: [&str; 2]) -> Result<(), Fail>
     requires { first < 1000000 }
 {
+    let [before, after] = around;
     for i in 0..CHANGES {
         let number = first + i;
-        let row = format!(in alloc; "row 0 01{number:016x} 030178\n")?;
-        answers.extend_from_slice(row.as_bytes())?;
+        let key = format!(in alloc; "{before}{number:016x}{after}")?;
+        text.extend_from_slice(key.as_bytes())?;
     }
     Ok(())
 }
@@ -172,10 +166,10 @@ fn a_hundred_thousand_rows_are_accepted(rt: HostRuntime) -> Result<(), Fail> {
     for line in 0..LINES {
         let first = line * CHANGES;
         script.extend_from_slice(b"feed 0 ")?;
-        push_changes(alloc, &mut script, first)?;
+        push_keys(alloc, &mut script, first, CHANGE)?;
         script.push(b'\n')?;
-        push_changes(alloc, &mut text, first)?;
-        push_rows(alloc, &mut rows, first)?;
+        push_keys(alloc, &mut text, first, CHANGE)?;
+        push_keys(alloc, &mut rows, first, ROW)?;
         answers.extend_from_slice(b"ok\n")?;
     }
     script.extend_from_slice(b"end 0\nsend 0\nturn\nentry 1\ncombine 1 1\n")?;

@@ -209,34 +209,36 @@ fn stopped<F: Display + Drop>(
     Ok(())
 }
 
+// runs a script with the standard limits and plain answers
+fn run_plainly<R: Read, W: Write>(
+    alloc: Global,
+    reader: &mut R,
+    writer: &mut W,
+) -> Result<(), ScriptFault> {
+    run_script(
+        alloc,
+        reader,
+        writer,
+        Config::standard(),
+        Answering::plain(),
+    )
+}
+
 #[test]
 fn stops(rt: HostRuntime) -> Result<(), Fail> {
     let alloc = rt.alloc();
-    let config = Config::standard();
     let mut written = Vec::new(alloc);
     let mut failing = Failing {
         rest: b"publisher\nturn\ntur",
     };
-    let read = run_script(
-        alloc,
-        &mut failing,
-        &mut written,
-        config,
-        Answering::plain(),
-    );
+    let read = run_plainly(alloc, &mut failing, &mut written);
     stopped(&rt, alloc, read, "read fault: timed out")?;
     assert!(rt; written.as_slice() == b"publisher 0\nidle\n".as_slice());
     let mut script: &[u8] = b"publisher\n";
-    let full = run_script(alloc, &mut script, &mut Full, config, Answering::plain());
+    let full = run_plainly(alloc, &mut script, &mut Full);
     stopped(&rt, alloc, full, "write fault: write zero")?;
     let mut nothing = Vec::new(alloc);
-    let endless = run_script(
-        alloc,
-        &mut Unending,
-        &mut nothing,
-        config,
-        Answering::plain(),
-    );
+    let endless = run_plainly(alloc, &mut Unending, &mut nothing);
     stopped(
         &rt,
         alloc,
@@ -255,13 +257,7 @@ fn what_is_interrupted_is_tried_again(rt: HostRuntime) -> Result<(), Fail> {
     let script: &[u8] = b"publisher\nturn\n";
     let mut reader = Hasty::new(script);
     let mut writer = Hasty::new(Vec::new(alloc));
-    run_script(
-        alloc,
-        &mut reader,
-        &mut writer,
-        Config::standard(),
-        Answering::plain(),
-    )?;
+    run_plainly(alloc, &mut reader, &mut writer)?;
     assert!(rt; writer.inner.as_slice() == b"publisher 0\nidle\n".as_slice());
     Ok(())
 }
@@ -280,13 +276,7 @@ fn lines_are_answered_before_the_next_read(rt: HostRuntime) -> Result<(), Fail> 
         lines: 0,
         answered: &answered,
     };
-    run_script(
-        alloc,
-        &mut reader,
-        &mut writer,
-        Config::standard(),
-        Answering::plain(),
-    )?;
+    run_plainly(alloc, &mut reader, &mut writer)?;
     assert_eq!(rt; answered.get(), 4);
     // the answer to a last line without a line end is flushed too
     let last: [&[u8]; 1] = [b"turn"];
@@ -296,13 +286,7 @@ fn lines_are_answered_before_the_next_read(rt: HostRuntime) -> Result<(), Fail> 
         answered: &rest,
     };
     let mut reader: &[u8] = last[0];
-    run_script(
-        alloc,
-        &mut reader,
-        &mut writer,
-        Config::standard(),
-        Answering::plain(),
-    )?;
+    run_plainly(alloc, &mut reader, &mut writer)?;
     assert_eq!(rt; rest.get(), 1);
     Ok(())
 }
@@ -314,13 +298,7 @@ fn write_faults_carry_their_reason(rt: HostRuntime) -> Result<(), Fail> {
     for (writes, flushes) in [(true, 9), (false, 0), (false, 2)] {
         let mut script: &[u8] = b"turn";
         let mut writer = Broken { writes, flushes };
-        let run = run_script(
-            alloc,
-            &mut script,
-            &mut writer,
-            Config::standard(),
-            Answering::plain(),
-        );
+        let run = run_plainly(alloc, &mut script, &mut writer);
         stopped(&rt, alloc, run, "write fault: timed out")?;
     }
     Ok(())
@@ -335,13 +313,7 @@ fn answers_are_handed_on_behind_a_fault(rt: HostRuntime) -> Result<(), Fail> {
         answered: &answered,
     };
     let mut reader = Turning { begun: false };
-    let run = run_script(
-        alloc,
-        &mut reader,
-        &mut writer,
-        Config::standard(),
-        Answering::plain(),
-    );
+    let run = run_plainly(alloc, &mut reader, &mut writer);
     stopped(&rt, alloc, run, "script too long: more than 16777216 bytes")?;
     assert_eq!(rt; answered.get(), 257);
     Ok(())

@@ -1,6 +1,7 @@
 -- What each statement means, and what it does to a replica's trees.
 pub mod Parts
 pub mod Texts
+pub mod Did
 pub mod DeletedRows
 pub mod Deletes
 pub mod Puts

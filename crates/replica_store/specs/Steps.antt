@@ -1,11 +1,13 @@
 -- What a call leaves of a connection, where the disk returned what was written.
-use Rattle.std.specs.Prelude.{◌≡◌, ◌⊎◌, ℕ, IsTrue, OnOk, Result}
-use Rattle.sqlite.specs.State.{HasCleanDisk, State, Survives}
+use Rattle.std.specs.Prelude.{◌≡◌, ◌⊎◌, ℕ, IsTrue, OnOk, IfOk, Result}
+use Rattle.std.specs.Global.{Vec}
+use Rattle.sqlite.specs.Order.{Row}
+use Rattle.sqlite.specs.State.{HasCleanDisk, IsUnchanged, State, Survives}
 use Rattle.sqlite.specs.Tree.{Trees}
 use Rattle.par_apply.specs.RowChanges.{RowChanges}
 use Rattle.replica_store.specs.Changes.{Commits}
 use Rattle.replica_store.specs.Picture.{HoldsReplica, IsNewReplica}
-use Rattle.replica_store.specs.Reading.{HasTableColumns}
+use Rattle.replica_store.specs.Reading.{HasTableColumns, ListsRows}
 
 -- this is so, where the disk returned what was written
 abbrev pub WhereClean : (State → Type 0) → State → Type 0
@@ -22,6 +24,17 @@ Makes result Is old new = HasCleanDisk new → OnOk result (Is old new)
 -- a crash leaves nothing that it didn't leave before
 abbrev pub AddsNone : State → State → Type 0
 AddsNone old new = Survives old new (λ _. ⊥)
+
+-- a query that shows each row of a tree so, and changes nothing
+abbrev pub ListsTree : {E : Type 0} → (Row → Row) → ℕ → Result (Vec Row) E → State → State → Type 0
+ListsTree show tree result old new =
+    (HasCleanDisk new → IfOk result (λ rows. ListsRows show (old.now.trees tree) rows.items))
+    × Makes result IsUnchanged old new × AddsNone old new
+
+-- a call that reads a replica, and changes nothing
+abbrev pub ReadsReplica : {T E : Type 0} → Result T E → State → State → Type 0
+ReadsReplica result old new = Makes result IsUnchanged old new
+    × Reaches result HoldsReplica new × AddsNone old new
 
 -- a crash leaves what is committed
 abbrev pub LeavesCommitted : State → Type 0

@@ -5,7 +5,6 @@ ghost use Rattle.sqlite.specs.Held.{state};
 ghost use Rattle.sqlite.specs.State.{Survives};
 ghost use Rattle.replica_store.specs.Changes.{AfterChange, AfterChanges, Commits};
 ghost use Rattle.replica_store.specs.Inside.{IsInside, ChangesRows, SetsCursor};
-ghost use Rattle.replica_store.specs.Inside.{WithoutRow, WithBody};
 ghost use Rattle.replica_store.specs.Picture.{HoldsReplica};
 ghost use Rattle.replica_store.specs.Steps.{WhereClean, Makes, AddsNone, HoldsCommit};
 
@@ -55,41 +54,20 @@ fn change_one<S: Alter>(tx: &mut Transaction<'_, S>, change: &RowChange) -> Resu
         (state S.Store tx.old.conn.now) (state S.Store tx.new.conn.now) }
     ensures survives { AddsNone (state S.Store tx.old.conn.now) (state S.Store tx.new.conn.now) }
 {
-    take_out(tx, &change.0)?;
-    if let Some(row) = &change.1 {
-        put_in(tx, &change.0, row.bytes())?;
-    }
-    Ok(())
-}
-
-fn take_out<S: Alter>(tx: &mut Transaction<'_, S>, key: &RowKey) -> Result<usize, Error>
-    requires { WhereClean IsInside (state S.Store tx.old.conn.now) }
-    ensures same_reference { tx.new.conn.ghost_name ≡ tx.old.conn.ghost_name }
-    ensures changes { Makes result (ChangesRows (WithoutRow key.now))
-        (state S.Store tx.old.conn.now) (state S.Store tx.new.conn.now) }
-    ensures survives { AddsNone (state S.Store tx.old.conn.now) (state S.Store tx.new.conn.now) }
-{
-    let table = table_number(key)?;
-    let bytes: &[u8] = &key.bytes;
+    let table = table_number(&change.0)?;
+    let bytes: &[u8] = &change.0.bytes;
     tx.execute(
         "DELETE FROM rb_row WHERE tab = ?1 AND rowkey = ?2",
         params![table, bytes],
-    )
-}
-
-fn put_in<S: Alter>(tx: &mut Transaction<'_, S>, key: &RowKey, body: &[u8]) -> Result<usize, Error>
-    requires { WhereClean IsInside (state S.Store tx.old.conn.now) }
-    ensures same_reference { tx.new.conn.ghost_name ≡ tx.old.conn.ghost_name }
-    ensures changes { Makes result (ChangesRows (WithBody key.now body.now))
-        (state S.Store tx.old.conn.now) (state S.Store tx.new.conn.now) }
-    ensures survives { AddsNone (state S.Store tx.old.conn.now) (state S.Store tx.new.conn.now) }
-{
-    let table = table_number(key)?;
-    let bytes: &[u8] = &key.bytes;
-    tx.execute(
-        "INSERT INTO rb_row VALUES (?1, ?2, ?3)",
-        params![table, bytes, body],
-    )
+    )?;
+    if let Some(row) = &change.1 {
+        let body = row.bytes();
+        tx.execute(
+            "INSERT INTO rb_row VALUES (?1, ?2, ?3)",
+            params![table, bytes, body],
+        )?;
+    }
+    Ok(())
 }
 
 // the table's number, if SQLite can store it

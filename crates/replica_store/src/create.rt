@@ -1,14 +1,13 @@
 //! Makes a replica's tables in a database without tables, in one transaction.
 
 ghost use Rattle.std.specs.Prelude.{◌≡◌, [], IsTrue, OnOk};
-ghost use Rattle.sqlite.specs.Held.{state};
-ghost use Rattle.sqlite.specs.State.{Survives};
-ghost use Rattle.replica_store.specs.Inside.{IsBlankInside, HasRowTable, HasBothTables};
-ghost use Rattle.replica_store.specs.Inside.{IsNewInside};
-ghost use Rattle.replica_store.specs.Layout.{empty_schema};
-ghost use Rattle.replica_store.specs.Picture.{IsNewReplica};
-ghost use Rattle.replica_store.specs.Steps.{WhereClean, Reaches, AddsNone, LeavesCommitted};
-ghost use Rattle.replica_store.specs.Steps.{HoldsNew};
+ghost use Rattle.sqlite.specs.{Held.{state}, State.{Survives}};
+ghost use Rattle.replica_store.specs.{
+  Inside.{IsBlankInside, IsNewInside},
+  Layout.{empty_schema},
+  Picture.{IsNewReplica},
+  Steps.{WhereClean, Reaches, AddsNone, LeavesCommitted, HoldsNew},
+};
 
 use sqlite::{Alter, Connection, Error, ErrorCode, Transaction};
 use sqlite_schema::schema::Schema;
@@ -45,42 +44,15 @@ fn make_all<S: Alter>(tx: &mut Transaction<'_, S>) -> Result<(), Error>
     ensures made { Reaches result IsNewInside (state S.Store tx.new.conn.now) }
     ensures survives { AddsNone (state S.Store tx.old.conn.now) (state S.Store tx.new.conn.now) }
 {
-    make_row_table(tx)?;
-    make_mark_table(tx)?;
-    put_first_mark(tx)?;
-    Ok(())
-}
-
-fn make_row_table<S: Alter>(tx: &mut Transaction<'_, S>) -> Result<usize, Error>
-    requires { WhereClean IsBlankInside (state S.Store tx.old.conn.now) }
-    ensures same_reference { tx.new.conn.ghost_name ≡ tx.old.conn.ghost_name }
-    ensures made { Reaches result HasRowTable (state S.Store tx.new.conn.now) }
-    ensures survives { AddsNone (state S.Store tx.old.conn.now) (state S.Store tx.new.conn.now) }
-{
     tx.execute(
         "CREATE TABLE rb_row(tab INTEGER NOT NULL, rowkey BLOB NOT NULL, body BLOB NOT NULL, \
          PRIMARY KEY (tab, rowkey))",
         &[],
-    )
-}
-
-fn make_mark_table<S: Alter>(tx: &mut Transaction<'_, S>) -> Result<usize, Error>
-    requires { WhereClean HasRowTable (state S.Store tx.old.conn.now) }
-    ensures same_reference { tx.new.conn.ghost_name ≡ tx.old.conn.ghost_name }
-    ensures made { Reaches result HasBothTables (state S.Store tx.new.conn.now) }
-    ensures survives { AddsNone (state S.Store tx.old.conn.now) (state S.Store tx.new.conn.now) }
-{
+    )?;
     tx.execute(
         "CREATE TABLE rb_mark(id INTEGER PRIMARY KEY, place INTEGER NOT NULL)",
         &[],
-    )
-}
-
-fn put_first_mark<S: Alter>(tx: &mut Transaction<'_, S>) -> Result<usize, Error>
-    requires { WhereClean HasBothTables (state S.Store tx.old.conn.now) }
-    ensures same_reference { tx.new.conn.ghost_name ≡ tx.old.conn.ghost_name }
-    ensures made { Reaches result IsNewInside (state S.Store tx.new.conn.now) }
-    ensures survives { AddsNone (state S.Store tx.old.conn.now) (state S.Store tx.new.conn.now) }
-{
-    tx.execute("INSERT INTO rb_mark VALUES (1, 0)", &[])
+    )?;
+    tx.execute("INSERT INTO rb_mark VALUES (1, 0)", &[])?;
+    Ok(())
 }

@@ -1,18 +1,15 @@
 //! What holds of a replica over a restart.
 
-ghost use Rattle.std.specs.Prelude.{ℕ, ◌<◌, ◌^◌, IfSome};
-ghost use Rattle.std.specs.List.{IsDistinct};
-ghost use Rattle.std.specs.Map.{keys_of};
-ghost use Rattle.cs_apply.specs.SameKey.{same_key};
-ghost use Rattle.cs_apply.specs.State.{Rows};
+ghost use Rattle.std.specs.{Prelude.{ℕ, ◌<◌, ◌^◌, IfSome}, List.{IsDistinct}, Map.{keys_of}};
+ghost use Rattle.cs_apply.specs.{SameKey.{same_key}, State.{Rows}};
 ghost use Rattle.par_apply.specs.RowChanges.{RowChanges, overlaid};
-ghost use Rattle.sqlite.specs.Held.{state};
-ghost use Rattle.sqlite.specs.State.{HasCleanDisk};
-ghost use Rattle.replica_store.specs.Changes.{Commits};
-ghost use Rattle.replica_store.specs.Loading.{TableBodies};
-ghost use Rattle.replica_store.specs.Picture.{AreSameRows, HoldsReplica, Stores};
-ghost use Rattle.replica_store.specs.Steps.{WhereClean, HoldsOneOf};
-ghost use Rattle.sqlite.specs.Tree.{Trees};
+ghost use Rattle.sqlite.specs.{Held.{state}, State.{HasCleanDisk}, Tree.{Trees}};
+ghost use Rattle.replica_store.specs.{
+  Changes.{Commits},
+  Loading.{TableBodies},
+  Picture.{AreSameRows, HoldsReplica, Stores},
+  Steps.{WhereClean, HoldsOneOf},
+};
 
 use crate::replica::Replica;
 use cs_model::Schema;

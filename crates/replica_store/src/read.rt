@@ -1,14 +1,14 @@
 //! Reads a replica's tables: two queries, and the values of a row of an answer.
 
-ghost use Rattle.std.specs.Prelude.{◌≡◌, ℕ, List, pos, IfOk, MatchOption};
+ghost use Rattle.std.specs.Prelude.{◌≡◌, ℕ, List, pos, MatchOption};
 ghost use Rattle.sqlite.specs.Held.{state};
-ghost use Rattle.sqlite.specs.State.{HasCleanDisk, IsUnchanged};
+ghost use Rattle.sqlite.specs.State.{HasCleanDisk};
 ghost use Rattle.sqlite_value.specs.Order.{column};
 ghost use Rattle.sqlite_value.specs.declared.value.Value.TheVariants.{Int, Blob};
 ghost use Rattle.replica_store.specs.Layout.{replica_schema};
-ghost use Rattle.replica_store.specs.Reading.{ListsRows, shown_row, shown_mark, IsMarkAnswer};
+ghost use Rattle.replica_store.specs.Reading.{shown_row, shown_mark, IsMarkAnswer};
 ghost use Rattle.replica_store.specs.Reading.{is_natural, is_blob_value};
-ghost use Rattle.replica_store.specs.Steps.{Makes, AddsNone};
+ghost use Rattle.replica_store.specs.Steps.{ListsTree};
 
 use sqlite::types::ValueRef;
 use sqlite::{Alter, Connection, Error, Row};
@@ -16,10 +16,7 @@ use sqlite::{Alter, Connection, Error, Row};
 /// All rows, each as its table's number, its key and its body.
 pub(crate) fn stored_rows<S: Alter>(conn: &mut Connection<S>) -> Result<Vec<Row>, Error>
     requires { HasCleanDisk (state S.Store conn.old) → conn.old.schema ≡ replica_schema }
-    ensures shows { HasCleanDisk (state S.Store conn.new) → IfOk result (λ rows.
-        ListsRows shown_row ((state S.Store conn.old).now.trees 0) rows.items) }
-    ensures same { Makes result IsUnchanged (state S.Store conn.old) (state S.Store conn.new) }
-    ensures survives { AddsNone (state S.Store conn.old) (state S.Store conn.new) }
+    ensures { ListsTree shown_row 0 result (state S.Store conn.old) (state S.Store conn.new) }
 {
     conn.query_all("SELECT tab, rowkey, body FROM rb_row", &[])
 }
@@ -27,10 +24,7 @@ pub(crate) fn stored_rows<S: Alter>(conn: &mut Connection<S>) -> Result<Vec<Row>
 /// All marks, each as its id and its place.
 pub(crate) fn stored_marks<S: Alter>(conn: &mut Connection<S>) -> Result<Vec<Row>, Error>
     requires { HasCleanDisk (state S.Store conn.old) → conn.old.schema ≡ replica_schema }
-    ensures shows { HasCleanDisk (state S.Store conn.new) → IfOk result (λ rows.
-        ListsRows shown_mark ((state S.Store conn.old).now.trees 2) rows.items) }
-    ensures same { Makes result IsUnchanged (state S.Store conn.old) (state S.Store conn.new) }
-    ensures survives { AddsNone (state S.Store conn.old) (state S.Store conn.new) }
+    ensures { ListsTree shown_mark 2 result (state S.Store conn.old) (state S.Store conn.new) }
 {
     conn.query_all("SELECT id, place FROM rb_mark", &[])
 }

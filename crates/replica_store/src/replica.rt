@@ -1,19 +1,30 @@
 //! `Replica`: a connection to a replica's database.
 
-ghost use Rattle.std.specs.Prelude.{◌≡◌, ◌≢◌, ◌⊎◌, ◌<◌, ◌^◌, IfOk, IfErr, Err};
-ghost use Rattle.sqlite.specs.Held.{state};
-ghost use Rattle.sqlite.specs.State.{HasCleanDisk, IsUnchanged, Survives};
-ghost use Rattle.sqlite.specs.Tree.{Trees};
-ghost use Rattle.replica_store.specs.Changes.{Commits};
-ghost use Rattle.replica_store.specs.Layout.{empty_schema};
-ghost use Rattle.std.specs.Arc.{arc_value};
+ghost use Rattle.std.specs.{Prelude.{◌≡◌, ◌≢◌, ◌⊎◌, ◌<◌, ◌^◌, IfOk, IfErr, Err}, Arc.{arc_value}};
 ghost use Rattle.std.specs.FinMap as map;
-ghost use Rattle.replica_store.specs.Durable.{KeepsRows};
-ghost use Rattle.replica_store.specs.Loading.{LoadsRows, AreSchemaRows};
-ghost use Rattle.replica_store.specs.Picture.{HasCursor, HoldsReplica, IsNewReplica, Stores};
-ghost use Rattle.replica_store.specs.Steps.{WhereClean, Reaches, Makes, AddsNone, LeavesCommitted};
-ghost use Rattle.replica_store.specs.Steps.{HoldsCommit, HoldsNew};
-ghost use Rattle.replica_store.specs.declared.error.ReplicaError.TheVariants.{Unusable};
+ghost use Rattle.sqlite.specs.{
+  Held.{state},
+  State.{HasCleanDisk, IsUnchanged, Survives},
+  Tree.{Trees},
+};
+ghost use Rattle.replica_store.specs.{
+  Changes.{Commits},
+  Layout.{empty_schema},
+  Durable.{KeepsRows},
+  Loading.{LoadsRows, AreSchemaRows},
+  Picture.{HasCursor, HoldsReplica, IsNewReplica, Stores},
+  Steps.{
+    WhereClean,
+    Reaches,
+    Makes,
+    AddsNone,
+    LeavesCommitted,
+    HoldsCommit,
+    HoldsNew,
+    ReadsReplica,
+  },
+  declared.error.ReplicaError.TheVariants.{Unusable},
+};
 
 use crate::commit::commit_once;
 use crate::create::create_once;
@@ -142,10 +153,8 @@ impl<S: Alter> Replica<S> {
         ensures unusable { HasCleanDisk (state S.Store self.new.conn) → result ≡ Err Unusable
             → AreSchemaRows (arc_value self.old.schema)
             (Stores (state S.Store self.old.conn).committed.trees) → ⊥ }
-        ensures same { Makes result IsUnchanged
+        ensures reads { ReadsReplica result
             (state S.Store self.old.conn) (state S.Store self.new.conn) }
-        ensures held { Reaches result HoldsReplica (state S.Store self.new.conn) }
-        ensures survives { AddsNone (state S.Store self.old.conn) (state S.Store self.new.conn) }
         ensures same_schema { self.new.schema ≡ self.old.schema }
     {
         let answer = reported(stored_rows(&mut self.conn))?;

@@ -1,6 +1,6 @@
 -- A change has its effect on the row of its key, and on that row alone.
-use Rattle.std.proofs.Common.{◌≡◌, ℕ, Bool, true, false, cond, List, Option, Some, None, Result, Ok, Err, IfOk, IfErr}
-use Rattle.std.proofs.Common.{refl, subst}
+use Rattle.std.proofs.Common.{◌≡◌, ℕ, Bool, true, false, cond, List, Option, Some, None, Result, Ok, Err}
+use Rattle.std.proofs.Common.{refl}
 use Rattle.std.specs.FinMap as map
 use Rattle.cs_model.specs.declared.value.Field.{Field}
 use Rattle.cs_model.specs.declared.value.Value.{Value}
@@ -8,11 +8,9 @@ use Rattle.cs_model.specs.declared.change.Op.{Op}
 use Rattle.cs_model.specs.declared.change.Op.TheVariants.{Insert, Update, Delete}
 use Rattle.cs_model.specs.declared.row_key.RowKey.{RowKey}
 use Rattle.cs_model.specs.Row.{values_of}
-use Rattle.cs_apply.specs.declared.change_error.ChangeError.{ChangeError}
 use Rattle.cs_apply.specs.declared.conflict.ConflictKind.{ConflictKind}
 use Rattle.cs_apply.specs.declared.conflict.ConflictKind.TheVariants.{Data}
 use Rattle.cs_apply.specs.Effect.{all_agree, rest_agrees, updated, effect_by, inserted, changed, deleted}
-use Rattle.cs_apply.specs.Errors.{ReportsKind}
 use Rattle.cs_apply.specs.RowAfter.{RowOrKind, row_after_op}
 use Rattle.cs_apply.specs.State.{Rows}
 use Rattle.cs_apply.specs.Steps.{put}
@@ -49,19 +47,3 @@ pub effect_is : (op : Op) (rows : Rows) (key : RowKey) (flags : List ℕ) (befor
 effect_is Insert rows key flags before after = insert_placed rows key flags before after (map.get rows key)
 effect_is Update rows key flags before after = update_placed rows key flags before after (map.get rows key)
 effect_is Delete rows key flags before after = delete_placed rows key flags before after (map.get rows key)
-
--- ---- an answer for an operation that is known to be this one
-
-pub ok_by_op : (r : Result (Option (List Value)) ChangeError) (op own : Op) (flags : List ℕ) (before after : List Field)
-    (there : Option (List Value)) → own ≡ op
-    → IfOk r (λ new. row_after_op own flags before after there ≡ Ok new)
-    → IfOk r (λ new. row_after_op op flags before after there ≡ Ok new)
-ok_by_op r op own flags before after there is =
-    subst (λ (o : Op). IfOk r (λ new. row_after_op o flags before after there ≡ Ok new)) is
-
-pub refused_by_op : (r : Result (Option (List Value)) ChangeError) (op own : Op) (flags : List ℕ)
-    (before after : List Field) (there : Option (List Value)) → own ≡ op
-    → IfErr r (λ e. ReportsKind e (row_after_op own flags before after there))
-    → IfErr r (λ e. ReportsKind e (row_after_op op flags before after there))
-refused_by_op r op own flags before after there is =
-    subst (λ (o : Op). IfErr r (λ e. ReportsKind e (row_after_op o flags before after there))) is

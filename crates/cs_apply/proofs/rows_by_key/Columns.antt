@@ -1,6 +1,6 @@
 -- Rows and records, column by column and as bytes.
 use Rattle.std.proofs.Common.{◌≡◌, ◌<◌, ℕ, ℤ, Bool, true, false, cond, eqb, inl, inr, List, [], ◌∷◌, ◌++◌, length, map}
-use Rattle.std.proofs.Common.{drop, take, Option, Some, None, refl, sym, ap, ◌∙◌, append_assoc}
+use Rattle.std.proofs.Common.{drop, take, Option, Some, None, refl, sym, ap, subst, ◌∙◌, append_assoc}
 use Rattle.std.specs.Prelude.{◌&&◌, MatchOption}
 use Rattle.std.specs.Option.{option_map}
 use Rattle.std.specs.Ordering.{int_eq}
@@ -18,7 +18,11 @@ use Rattle.std.proofs.lemmas.List.{append-nil, drop_more}
 use Rattle.cs_model.specs.Packed.{packed, fields_in, unpacked, Fits}
 use Rattle.cs_model.specs.Row.{row_fields, values_of}
 use Rattle.cs_model.specs.Rule.{Given, Key, is_defined, is_key_value, row_rule, meets}
-use Rattle.cs_model.specs.Changeset.{Obeys}
+use Rattle.cs_model.specs.Changeset.{AreRecords, IsChange, Obeys}
+use Rattle.cs_model.specs.declared.change.Change.{Change}
+use Rattle.cs_model.specs.declared.change.Op.{Op}
+use Rattle.cs_model.specs.declared.change.Op.TheVariants.{Insert, Delete}
+use Rattle.cs_model.specs.declared.shape.Shape.{Shape}
 use Rattle.cs_apply.specs.Effect.{same_value, agrees, all_agree, rest_agrees, updated_field, updated}
 use Rattle.cs_apply.specs.Steps.{chosen, merged, field_agrees, fields_agree}
 
@@ -225,7 +229,7 @@ rule_defined : (b : Bool) (field : Field) → meets (cond b Given Key) field ≡
 rule_defined true field h = h
 rule_defined false field h = key_defined field h
 
-pub all_defined : (flags : List ℕ) (fields : List Field) → Obeys (map row_rule flags) fields
+all_defined : (flags : List ℕ) (fields : List Field) → Obeys (map row_rule flags) fields
     → list_all is_defined fields ≡ true
 all_defined [] [] h = refl
 all_defined [] (field ∷ fields) h = absurd h
@@ -233,3 +237,14 @@ all_defined (flag ∷ flags) [] h = absurd h
 all_defined (flag ∷ flags) (field ∷ fields) h =
     and_from (is_defined field) (list_all is_defined fields) (rule_defined (eqb flag 0) field h.1)
     (all_defined flags fields h.2)
+
+-- so an INSERT has a value for each column, and so has a DELETE
+pub inserted_defined : (shape : Shape) (change : Change) → change.op ≡ Insert → IsChange shape change
+    → list_all is_defined change.after ≡ true
+inserted_defined shape change is fits = all_defined shape.flags change.after
+    (subst (λ (op : Op). AreRecords shape.flags op change.before change.after) is fits).1
+
+pub deleted_defined : (shape : Shape) (change : Change) → change.op ≡ Delete → IsChange shape change
+    → list_all is_defined change.before ≡ true
+deleted_defined shape change is fits = all_defined shape.flags change.before
+    (subst (λ (op : Op). AreRecords shape.flags op change.before change.after) is fits).0

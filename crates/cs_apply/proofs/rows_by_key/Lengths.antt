@@ -3,7 +3,7 @@ use Rattle.std.proofs.Common.{◌≡◌, ◌∙◌, ℕ, suc, Bool, true, false,
 use Rattle.std.proofs.Common.{Option, Some, None, Result, Ok, Err, refl, ap, sym, subst, take, take_all, arith}
 use Rattle.std.proofs.lemmas.Bool.{and_parts, false≢true}
 use Rattle.std.proofs.lemmas.List.Quantifiers.{position-Some}
-use Rattle.std.specs.Prelude.{IfSome, OnOk, get_or, is_ok}
+use Rattle.std.specs.Prelude.{OnOk, get_or, is_ok}
 use Rattle.std.specs.List.{AllByRecursion}
 use Rattle.std.specs.Cmp.Lexicographic.{same_text}
 use Rattle.std.specs.FinMap as map
@@ -30,9 +30,8 @@ use Rattle.cs_apply.specs.Single.{changes_of, effect_at, single, single_from}
 use Rattle.cs_apply.specs.State.{Rows, TableState, compatible, is_kept, only_kept}
 use Rattle.cs_apply.specs.declared.conflict.ApplyError.{ApplyError}
 use Rattle.cs_apply.specs.declared.places.Places.{Places}
-use Rattle.cs_apply.specs.Steps.{Back, Entries, put, rows_of, undone}
-use Rattle.cs_apply.proofs.stored.Filled.{get_put}
-use Rattle.cs_apply.proofs.rows_by_key.Keys.{exact, same_key}
+use Rattle.cs_apply.specs.Steps.{Back, Entries, rows_of, undone}
+use Rattle.cs_apply.proofs.stored.PlaceLaws.{put_keeps_columns}
 use Rattle.cs_apply.proofs.effects.OneByOne.{OneByOneNamed, front_found, one_by_one_none_left, rows_found}
 
 -- ---- the values of records
@@ -62,19 +61,6 @@ updated_long (flag ∷ flags) (old ∷ before) (new ∷ after) (value ∷ row) o
 
 -- ---- one change
 
-put_keeps : (schema : List Shape) (rows : Rows) (key : RowKey) (row : Option (List Value))
-    → RowsHaveColumns schema rows → IfSome row (λ values. length values ≡ length (table_flags schema key.table))
-    → RowsHaveColumns schema (put rows key row)
-put_keeps schema rows key row have long q values found =
-    by (same_key q key) refl (sym (get_put rows key q row) ∙ found)
-  where
-    by : (b : Bool) → same_key q key ≡ b → cond b row (map.get rows q) ≡ Some values
-        → length values ≡ length (table_flags schema q.table)
-    by true same e =
-        subst (λ (k : RowKey). length values ≡ length (table_flags schema k.table)) (sym (exact q key same))
-        (subst (λ (r : Option (List Value)). IfSome r (λ vs. length vs ≡ length (table_flags schema key.table))) e long)
-    by false same e = have q values e
-
 made_if : (b : Bool) (made : Rows) (why : ConflictKind) (new : Rows) → cond b (Ok made) (Err why) ≡ Ok new → made ≡ new
 made_if true made why new e = cc e
 made_if false made why new e = absurd cc
@@ -87,7 +73,8 @@ effect_keeps schema Insert rows key flags before after None new have is own r e 
     let made : map.insert rows key (values_of after) ≡ new =
     cc (sym (ap (inserted rows key (values_of after)) is) ∙ e) in
     subst (RowsHaveColumns schema) made
-    (put_keeps schema rows key (Some (values_of after)) have (values_long flags after r.1 ∙ ap length (sym own)))
+    (put_keeps_columns schema rows key (Some (values_of after)) have
+    (values_long flags after r.1 ∙ ap length (sym own)))
 effect_keeps schema Insert rows key flags before after (Some row) new have is own r e =
     absurd (let no = sym (ap (inserted rows key (values_of after)) is) ∙ e in cc)
 effect_keeps schema Update rows key flags before after None new have is own r e =
@@ -97,14 +84,14 @@ effect_keeps schema Update rows key flags before after (Some row) new have is ow
     (sym (ap (changed rows key flags before after) is) ∙ e) in
     let long = have key row is ∙ ap length own in
     subst (RowsHaveColumns schema) made
-    (put_keeps schema rows key (Some (updated after row)) have
+    (put_keeps_columns schema rows key (Some (updated after row)) have
     (updated_long flags before after row r.0 r.1 long ∙ ap length (sym own)))
 effect_keeps schema Delete rows key flags before after None new have is own r e =
     absurd (let no = sym (ap (deleted rows key before) is) ∙ e in cc)
 effect_keeps schema Delete rows key flags before after (Some row) new have is own r e =
     let made = made_if (all_agree before row) (map.remove rows key) Data new
     (sym (ap (deleted rows key before) is) ∙ e) in
-    subst (RowsHaveColumns schema) made (put_keeps schema rows key None have tt)
+    subst (RowsHaveColumns schema) made (put_keeps_columns schema rows key None have tt)
 
 -- ---- the compatible table
 

@@ -101,16 +101,16 @@ index_is : (n m : ℕ) (b : Bool) → Some n ≡ cond b (Some m) None → n ≡ 
 index_is n m true e = cc
 index_is n m false e = cc
 
-pub found_place : (es : Entries) (q k : RowKey) (place : ℕ) (row : Option (List Value)) → Some place
-    ≡ position (same_key q) (keys_of es) → Some (k, row) ≡ slice_get es place
-    → slice_get (values_of es) place ≡ lookup (same_key q) es → (slice_get es place ≡ Some (q, row))
-    × (lookup (same_key q) es ≡ Some row)
-found_place es q k place row index entry value =
+pub found_place : (es : Entries) (q k : RowKey) (place : ℕ) (row : Option (List Value))
+    → IsDistinct same_key (keys_of es) → Some place ≡ position (same_key q) (keys_of es)
+    → Some (k, row) ≡ slice_get es place → slice_get (values_of es) place ≡ lookup (same_key q) es
+    → (slice_get es place ≡ Some (q, row)) × (map.get (rows_of es) q ≡ row)
+found_place es q k place row distinct index entry value =
     let found : lookup (same_key q) es ≡ Some row = sym value ∙ value_at es place k row (sym entry) in
     let here : place ≡ position_or_len (same_key q) (keys_of es) =
     index_is place (position_or_len (same_key q) (keys_of es))
     (nat_lt (position_or_len (same_key q) (keys_of es)) (length (keys_of es))) index in
-    (ap (slice_get es) here ∙ at_position es q row found, found)
+    (ap (slice_get es) here ∙ at_position es q row found, get_row es q distinct ∙ ap row_in found)
 
 -- a key that has no place has no row
 pub no_place : (es : Entries) (q : RowKey) → IsDistinct same_key (keys_of es) → false ≡ is_some (lookup (same_key q) es)

@@ -117,7 +117,7 @@ all_in others es left none so_far = (
 )
 
 -- rows in each other both ways are the same
-pub same_both_ways : (rows others : Rows) → AreIn rows others → AreIn others rows → rows ≡ others
+same_both_ways : (rows others : Rows) → AreIn rows others → AreIn others rows → rows ≡ others
 same_both_ways rows others there back = map.same_map keys_total exact_keys rows others
     (λ q. by (map.get rows q) (map.get others q) (there q) (back q))
   where
@@ -154,20 +154,32 @@ schemas_decided a b r is = slice_eq-Decides shapes_decided a b r is
 pub kept_decided : (a b : List Bool) (r : Bool) → r ≡ pointwise beq a b → Decides r (a ≡ b)
 kept_decided a b r is = slice_eq-Decides booleans_Decides a b r is
 
+-- rows are the same if each of them is one of the others, both ways
+pub rows_decided : (a b : Rows) (value : Bool) → Decides value (AreIn a b × AreIn b a) → Decides value (a ≡ b)
+rows_decided a b value both = (
+  λ v. let p = both.0 v in same_both_ways a b p.0 p.1,
+  λ same.
+      both.1 (
+        λ key row found. ap (λ rows. map.get rows key) (sym same) ∙ found,
+        λ key row found. ap (λ rows. map.get rows key) same ∙ found,
+      ),
+)
+
+-- what is said of tables as they are kept is said of them as they are seen
+pub setup_decided : (a b x y : TableState) (value : Bool) → a ≡ x → b ≡ y
+    → Decides value ((a.schema ≡ b.schema) × (a.kept ≡ b.kept))
+    → Decides value ((x.schema ≡ y.schema) × (x.kept ≡ y.kept))
+setup_decided a b x y value left right =
+    subst (λ (p : TableState × TableState). Decides value ((p.0.schema ≡ p.1.schema) × (p.0.kept ≡ p.1.kept)))
+    (λ i. (left i, right i))
+
 -- tables are the same if their parts are
 pub tables_decided : (a b x y : TableState) (value : Bool) → a ≡ x → b ≡ y
-    → Decides value ((((a.schema ≡ b.schema) × (a.kept ≡ b.kept)) × AreIn a.rows b.rows) × AreIn b.rows a.rows)
-    → Decides value (x ≡ y)
+    → Decides value (((x.schema ≡ y.schema) × (x.kept ≡ y.kept)) × (a.rows ≡ b.rows)) → Decides value (x ≡ y)
 tables_decided a b x y value left right parts = (
-  λ v. let p = parts.0 v in sym left ∙ joined p.0.0.0 p.0.0.1 (same_both_ways a.rows b.rows p.0.1 p.1) ∙ right,
-  λ same. parts.1 (apart (left ∙ same ∙ sym right)),
+  λ v. let p = parts.0 v in joined p.0.0 p.0.1 (ap (λ t. t.rows) (sym left) ∙ p.1 ∙ ap (λ t. t.rows) right),
+  λ same. parts.1 ((ap (λ t. t.schema) same, ap (λ t. t.kept) same), ap (λ t. t.rows) (left ∙ same ∙ sym right)),
 )
   where
-    joined : a.schema ≡ b.schema → a.kept ≡ b.kept → a.rows ≡ b.rows → a ≡ b
+    joined : x.schema ≡ y.schema → x.kept ≡ y.kept → x.rows ≡ y.rows → x ≡ y
     joined s k r = λ i. record { schema = s i; kept = k i; rows = r i }
-
-    apart : a ≡ b → (((a.schema ≡ b.schema) × (a.kept ≡ b.kept)) × AreIn a.rows b.rows) × AreIn b.rows a.rows
-    apart e = (
-      ((ap (λ t. t.schema) e, ap (λ t. t.kept) e), λ key row found. ap (λ t. map.get t.rows key) (sym e) ∙ found),
-      λ key row found. ap (λ t. map.get t.rows key) e ∙ found,
-    )

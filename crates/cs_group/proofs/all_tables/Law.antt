@@ -50,7 +50,7 @@ at_index schema kept table shape e = go (compatible schema kept shape) refl e
         ap (λ n. get_or schema n (record { name = []; flags = [] })) (sym same)
         ∙ same_is (get_or schema i (record { name = []; flags = [] })) shape there.1
 
-one_shape : (schema : List Shape) (kept : List Bool) (table : ℕ) → IsOne (of_table schema kept table)
+pub one_shape : (schema : List Shape) (kept : List Bool) (table : ℕ) → IsOne (of_table schema kept table)
 one_shape schema kept table a b e f = sym (at_index schema kept table a e) ∙ at_index schema kept table b f
 
 pub flags_of_table : (schema : List Shape) (kept : List Bool) (table : ℕ)

@@ -12,40 +12,25 @@ use Rattle.cs_model.specs.Rule.{is_defined}
 use Rattle.cs_model.specs.declared.value.Field.{Field}
 use Rattle.cs_model.specs.declared.field_ref.FieldRef.{FieldRef}
 use Rattle.cs_model.specs.Seen.{field_seen, fields_seen}
-use Rattle.cs_group.specs.Merge.{new_if_changed, news_changed, old_if_changed, olds_changed}
+use Rattle.cs_group.specs.Merge.{by_column, new_if_changed, news_changed, old_if_changed, olds_changed}
 use Rattle.cs_group.proofs.cut_down.InPlace.{list_get_at, list_set_at}
 
 -- ---- both records are cut where one of them or the flags end
 
-olds_cut : (n : ℕ) (flags : List ℕ) (before after : List FieldRef)
+columns_cut : (make : ℕ → Field → Field → Field) (n : ℕ) (flags : List ℕ) (before after : List FieldRef)
     → n ≡ min (min (length flags) (length before)) (length after)
-    → olds_changed flags (fields_seen (take n before)) (fields_seen (take n after))
-    ≡ olds_changed flags (fields_seen before) (fields_seen after)
-olds_cut zero [] before after is = refl
-olds_cut zero (flag ∷ flags) [] after is = refl
-olds_cut zero (flag ∷ flags) (old ∷ before) [] is = refl
-olds_cut zero (flag ∷ flags) (old ∷ before) (new ∷ after) is = absurd (omega (arith, is))
-olds_cut (suc n) [] before after is = refl
-olds_cut (suc n) (flag ∷ flags) [] after is = refl
-olds_cut (suc n) (flag ∷ flags) (old ∷ before) [] is = refl
-olds_cut (suc n) (flag ∷ flags) (old ∷ before) (new ∷ after) is =
-    ap (λ fs. old_if_changed flag (field_seen old) (field_seen new) ∷ fs)
-    (olds_cut n flags before after (omega (arith, is)))
-
-news_cut : (n : ℕ) (flags : List ℕ) (before after : List FieldRef)
-    → n ≡ min (min (length flags) (length before)) (length after)
-    → news_changed flags (fields_seen (take n before)) (fields_seen (take n after))
-    ≡ news_changed flags (fields_seen before) (fields_seen after)
-news_cut zero [] before after is = refl
-news_cut zero (flag ∷ flags) [] after is = refl
-news_cut zero (flag ∷ flags) (old ∷ before) [] is = refl
-news_cut zero (flag ∷ flags) (old ∷ before) (new ∷ after) is = absurd (omega (arith, is))
-news_cut (suc n) [] before after is = refl
-news_cut (suc n) (flag ∷ flags) [] after is = refl
-news_cut (suc n) (flag ∷ flags) (old ∷ before) [] is = refl
-news_cut (suc n) (flag ∷ flags) (old ∷ before) (new ∷ after) is =
-    ap (λ fs. new_if_changed flag (field_seen old) (field_seen new) ∷ fs)
-    (news_cut n flags before after (omega (arith, is)))
+    → by_column make flags (fields_seen (take n before)) (fields_seen (take n after))
+    ≡ by_column make flags (fields_seen before) (fields_seen after)
+columns_cut make zero [] before after is = refl
+columns_cut make zero (flag ∷ flags) [] after is = refl
+columns_cut make zero (flag ∷ flags) (old ∷ before) [] is = refl
+columns_cut make zero (flag ∷ flags) (old ∷ before) (new ∷ after) is = absurd (omega (arith, is))
+columns_cut make (suc n) [] before after is = refl
+columns_cut make (suc n) (flag ∷ flags) [] after is = refl
+columns_cut make (suc n) (flag ∷ flags) (old ∷ before) [] is = refl
+columns_cut make (suc n) (flag ∷ flags) (old ∷ before) (new ∷ after) is =
+    ap (λ fs. make flag (field_seen old) (field_seen new) ∷ fs)
+    (columns_cut make n flags before after (omega (arith, is)))
 
 -- ---- some columns are done
 
@@ -84,9 +69,9 @@ none_both before after old_cut new_cut columns flags is is_old is_new = record {
   old_size = ap length is_old ∙ length-take-le columns before (omega (arith, is));
   new_size = ap length is_new ∙ length-take-le columns after (omega (arith, is));
   old_made = (λ i. olds_changed flags (fields_seen (is_old i)) (fields_seen (is_new i)))
-      ∙ olds_cut columns flags before after is;
+      ∙ columns_cut old_if_changed columns flags before after is;
   new_made = (λ i. news_changed flags (fields_seen (is_old i)) (fields_seen (is_new i)))
-      ∙ news_cut columns flags before after is;
+      ∙ columns_cut new_if_changed columns flags before after is;
   any_made = refl;
 }
 
@@ -160,13 +145,10 @@ both_more before after column columns flag flags olds news any old new x y d is_
 
 -- ---- the end
 
-olds_before : (flags : List ℕ) (after : List Field) → olds_changed flags [] after ≡ []
-olds_before [] after = refl
-olds_before (flag ∷ flags) after = refl
-
-news_before : (flags : List ℕ) (after : List Field) → news_changed flags [] after ≡ []
-news_before [] after = refl
-news_before (flag ∷ flags) after = refl
+made_of_none : (make : ℕ → Field → Field → Field) (flags : List ℕ) (after : List Field)
+    → by_column make flags [] after ≡ []
+made_of_none make [] after = refl
+made_of_none make (flag ∷ flags) after = refl
 
 -- all columns are done
 pub record IsBothDone (before after : List FieldRef) (olds news : List Field) (any : Bool) : Type 0 where
@@ -189,11 +171,13 @@ both_end before after column columns flags olds news any d over =
     let fields = fields_seen d.new_back in
     let new_is : fields_seen d.new_front ≡ news =
     sym (append-nil (fields_seen d.new_front)) ∙ ap (λ fs. fields_seen d.new_front ++ fs)
-    (sym ((λ i. news_changed flags (fields_seen (o.0 i)) fields) ∙ news_before flags fields)) ∙ d.new_made in
+    (sym ((λ i. news_changed flags (fields_seen (o.0 i)) fields) ∙ made_of_none new_if_changed flags fields))
+    ∙ d.new_made in
     record {
       old_is = ap fields_seen o.1 ∙ sym (append-nil (fields_seen d.old_front))
           ∙ ap (λ fs. fields_seen d.old_front ++ fs)
-          (sym ((λ i. olds_changed flags (fields_seen (o.0 i)) fields) ∙ olds_before flags fields)) ∙ d.old_made;
+          (sym ((λ i. olds_changed flags (fields_seen (o.0 i)) fields) ∙ made_of_none old_if_changed flags fields))
+          ∙ d.old_made;
       new_is = ap fields_seen n.1 ∙ new_is;
       any_is = sym d.any_made ∙ ap (list_any is_defined) new_is;
     }

@@ -8,7 +8,8 @@ use Rattle.cs_model.specs.Changeset.{Obeys}
 use Rattle.cs_model.specs.KeyBytes.{key_fields}
 use Rattle.cs_model.specs.Rule.{Rule, Open, PairedWith}
 use Rattle.cs_group.specs.Merge.{field_or, record_or, equal_fields, olds_changed, news_changed}
-use Rattle.cs_group.proofs.one_row.Valid.{IsRowRecord, IsOldRecord, IsNewRecord, ObeysRule, row_at, old_at, new_at, key_at}
+use Rattle.cs_group.proofs.one_row.Valid.{IsRowRecord, IsOldRecord, IsNewRecord, ObeysRule, row_at, old_at, new_at}
+use Rattle.cs_group.proofs.one_row.Valid.{AreByColumn, by_columns, by_flag, key_at, news_by_column}
 
 -- Outside the key the new field is defined where the old one is; in the key it may be anything.
 abbrev pair_at : Bool → Field → Rule
@@ -21,6 +22,9 @@ pair_rules (flag ∷ flags) (old ∷ before) = pair_at (eqb flag 0) old ∷ pair
 
 abbrev pub IsPaired : List ℕ → List Field → List Field → Type 0
 IsPaired flags before after = Obeys (pair_rules flags before) after
+
+pairs_by_column : AreByColumn pair_rules pair_at
+pairs_by_column = record { none = refl; more = λ flag flags old before. refl }
 
 abbrev pub old_left : Bool → Bool → Field → Field
 old_left outside same old = cond (outside && same) Undefined old
@@ -38,14 +42,9 @@ old_left_column false same old o = o
 
 pub olds_are_old : (flags : List ℕ) (before after : List Field) → IsOldRecord flags before → IsPaired flags before after
     → IsOldRecord flags (olds_changed flags before after)
-olds_are_old [] [] [] o n = tt
-olds_are_old [] [] (new ∷ after) o n = elim n [ ]
-olds_are_old [] (old ∷ before) after o n = elim o [ ]
-olds_are_old (flag ∷ flags) [] after o n = elim o [ ]
-olds_are_old (flag ∷ flags) (old ∷ before) [] o n = elim n [ ]
-olds_are_old (flag ∷ flags) (old ∷ before) (new ∷ after) o n =
-    let column = old_left_column (eqb flag 0) (equal_fields old new) old (o.0, o.1) in
-    (column.0, column.1, olds_are_old flags before after o.2 n.2)
+olds_are_old = by_columns old_at pairs_by_column (λ fs olds news. IsOldRecord fs (olds_changed fs olds news)) tt
+    (λ flag fs old new olds news o n rest.
+    let column = old_left_column (eqb flag 0) (equal_fields old new) old o in (column.0, column.1, rest))
 
 -- ---- the new record
 
@@ -57,14 +56,11 @@ new_left_column false same old new n = (tt, refl)
 
 pub news_are_new : (flags : List ℕ) (before after : List Field) → IsOldRecord flags before → IsPaired flags before after
     → IsNewRecord flags (olds_changed flags before after) (news_changed flags before after)
-news_are_new [] [] [] o n = tt
-news_are_new [] [] (new ∷ after) o n = elim n [ ]
-news_are_new [] (old ∷ before) after o n = elim o [ ]
-news_are_new (flag ∷ flags) [] after o n = elim o [ ]
-news_are_new (flag ∷ flags) (old ∷ before) [] o n = elim n [ ]
-news_are_new (flag ∷ flags) (old ∷ before) (new ∷ after) o n =
-    let column = new_left_column (eqb flag 0) (equal_fields old new) old new (n.0, n.1) in
-    (column.0, column.1, news_are_new flags before after o.2 n.2)
+news_are_new =
+    by_columns old_at pairs_by_column
+    (λ fs olds news. IsNewRecord fs (olds_changed fs olds news) (news_changed fs olds news)) tt
+    (λ flag fs old new olds news o n rest.
+    let column = new_left_column (eqb flag 0) (equal_fields old new) old new n in (column.0, column.1, rest))
 
 -- ---- the key
 
@@ -75,11 +71,10 @@ key_column false same old rest others is = ap (λ (fs : List Field). old ∷ fs)
 
 pub olds_key : (flags : List ℕ) (before after : List Field) → IsOldRecord flags before → IsPaired flags before after
     → key_fields flags (olds_changed flags before after) ≡ key_fields flags before
-olds_key [] before after o n = refl
-olds_key (flag ∷ flags) [] after o n = elim o [ ]
-olds_key (flag ∷ flags) (old ∷ before) [] o n = elim n [ ]
-olds_key (flag ∷ flags) (old ∷ before) (new ∷ after) o n = key_column (eqb flag 0) (equal_fields old new) old
-    (key_fields flags (olds_changed flags before after)) (key_fields flags before) (olds_key flags before after o.2 n.2)
+olds_key = by_columns old_at pairs_by_column
+    (λ fs olds news. key_fields fs (olds_changed fs olds news) ≡ key_fields fs olds) refl
+    (λ flag fs old new olds news o n.
+    key_column (eqb flag 0) (equal_fields old new) old (key_fields fs (olds_changed fs olds news)) (key_fields fs olds))
 
 -- ---- which records pair
 
@@ -92,13 +87,9 @@ update_column false old new n = (n.0, refl)
 pub update_pairs : (flags : List ℕ) (before after : List Field) → IsOldRecord flags before
     → IsNewRecord flags before after
     → IsPaired flags before after
-update_pairs [] before [] o n = tt
-update_pairs [] before (new ∷ after) o n = elim n [ ]
-update_pairs (flag ∷ flags) [] after o n = elim o [ ]
-update_pairs (flag ∷ flags) (old ∷ before) [] o n = elim n [ ]
-update_pairs (flag ∷ flags) (old ∷ before) (new ∷ after) o n =
-    let column = update_column (eqb flag 0) old new (n.0, n.1) in
-    (column.0, column.1, update_pairs flags before after o.2 n.2)
+update_pairs = by_columns old_at news_by_column IsPaired tt
+    (λ flag fs old new olds news o n rest.
+    let column = update_column (eqb flag 0) old new n in (column.0, column.1, rest))
 
 -- those of two rows
 rows_column : (outside : Bool) (old new : Field) → ObeysRule (row_at outside) old → ObeysRule (row_at outside) new
@@ -109,13 +100,9 @@ rows_column false old new o n = (n.0, refl)
 
 pub rows_pair : (flags : List ℕ) (before after : List Field) → IsRowRecord flags before → IsRowRecord flags after
     → IsPaired flags before after
-rows_pair [] before [] o n = tt
-rows_pair [] before (new ∷ after) o n = elim n [ ]
-rows_pair (flag ∷ flags) [] after o n = elim o [ ]
-rows_pair (flag ∷ flags) (old ∷ before) [] o n = elim n [ ]
-rows_pair (flag ∷ flags) (old ∷ before) (new ∷ after) o n =
-    let column = rows_column (eqb flag 0) old new (o.0, o.1) (n.0, n.1) in
-    (column.0, column.1, rows_pair flags before after o.2 n.2)
+rows_pair = by_columns row_at (by_flag row_at) IsPaired tt
+    (λ flag fs old new olds news o n rest.
+    let column = rows_column (eqb flag 0) old new o n in (column.0, column.1, rest))
 
 -- those of two UPDATEs, the first old values and the last new ones
 updates_column : (outside : Bool) (old new later newer : Field) → ObeysRule (new_at outside old) new

@@ -59,6 +59,26 @@ Turns (flag ∷ flags) (old ∷ before) (new ∷ after) (value ∷ row) [] = ⊥
 Turns (flag ∷ flags) (old ∷ before) (new ∷ after) (value ∷ row) (target ∷ targets) =
     TurnsAt (eqb flag 0) old new value target × Turns flags before after row targets
 
+-- What holds of no column, and of one column more, holds of records that turn one row into another.
+by_turns : (P : List ℕ → List Field → List Field → Row → Row → Type 0) → P [] [] [] [] []
+    → ((flag : ℕ) (flags : List ℕ) (old new : Field) (before after : List Field) (value target : Value)
+    (row targets : Row) → TurnsAt (eqb flag 0) old new value target → P flags before after row targets
+    → P (flag ∷ flags) (old ∷ before) (new ∷ after) (value ∷ row) (target ∷ targets))
+    → (flags : List ℕ) (before after : List Field) (row targets : Row) → Turns flags before after row targets
+    → P flags before after row targets
+by_turns P none more [] [] [] [] [] t = none
+by_turns P none more [] [] [] [] (target ∷ targets) t = elim t [ ]
+by_turns P none more [] [] [] (value ∷ row) targets t = elim t [ ]
+by_turns P none more [] [] (new ∷ after) row targets t = elim t [ ]
+by_turns P none more [] (old ∷ before) after row targets t = elim t [ ]
+by_turns P none more (flag ∷ flags) [] after row targets t = elim t [ ]
+by_turns P none more (flag ∷ flags) (old ∷ before) [] row targets t = elim t [ ]
+by_turns P none more (flag ∷ flags) (old ∷ before) (new ∷ after) [] targets t = elim t [ ]
+by_turns P none more (flag ∷ flags) (old ∷ before) (new ∷ after) (value ∷ row) [] t = elim t [ ]
+by_turns P none more (flag ∷ flags) (old ∷ before) (new ∷ after) (value ∷ row) (target ∷ targets) t =
+    more flag flags old new before after value target row targets t.0
+    (by_turns P none more flags before after row targets t.1)
+
 -- the columns that it changes agree with the row
 agrees_column : (outside same : Bool) (old new : Field) (value target : Value) (rest : Bool)
     → TurnsAt outside old new value target
@@ -95,19 +115,9 @@ turned_column false same old new value target s t = t
 
 pub turned_row : (flags : List ℕ) (before after : List Field) (row targets : Row) → Turns flags before after row targets
     → updated (news_changed flags before after) row ≡ targets
-turned_row [] [] [] [] [] t = refl
-turned_row [] [] [] [] (target ∷ targets) t = elim t [ ]
-turned_row [] [] [] (value ∷ row) targets t = elim t [ ]
-turned_row [] [] (new ∷ after) row targets t = elim t [ ]
-turned_row [] (old ∷ before) after row targets t = elim t [ ]
-turned_row (flag ∷ flags) [] after row targets t = elim t [ ]
-turned_row (flag ∷ flags) (old ∷ before) [] row targets t = elim t [ ]
-turned_row (flag ∷ flags) (old ∷ before) (new ∷ after) [] targets t = elim t [ ]
-turned_row (flag ∷ flags) (old ∷ before) (new ∷ after) (value ∷ row) [] t = elim t [ ]
-turned_row (flag ∷ flags) (old ∷ before) (new ∷ after) (value ∷ row) (target ∷ targets) t = λ i.
-    turned_column (eqb flag 0) (equal_fields old new) old new value target refl t.0 i ∷ turned_row flags before after
-    row
-    targets t.1 i
+turned_row = by_turns (λ fs olds news row targets. updated (news_changed fs olds news) row ≡ targets) refl
+    (λ flag fs old new olds news value target row targets t rest i.
+    turned_column (eqb flag 0) (equal_fields old new) old new value target refl t i ∷ rest i)
 
 -- a record that says nothing changes nothing
 pub quiet_row : (fields : List Field) (row : Row) → length fields ≡ length row → list_any is_defined fields ≡ false
@@ -122,17 +132,8 @@ quiet_row (Undefined ∷ fields) (value ∷ row) long d =
 
 turned_long : (flags : List ℕ) (before after : List Field) (row targets : Row) → Turns flags before after row targets
     → length (news_changed flags before after) ≡ length row
-turned_long [] [] [] [] [] t = refl
-turned_long [] [] [] [] (target ∷ targets) t = elim t [ ]
-turned_long [] [] [] (value ∷ row) targets t = elim t [ ]
-turned_long [] [] (new ∷ after) row targets t = elim t [ ]
-turned_long [] (old ∷ before) after row targets t = elim t [ ]
-turned_long (flag ∷ flags) [] after row targets t = elim t [ ]
-turned_long (flag ∷ flags) (old ∷ before) [] row targets t = elim t [ ]
-turned_long (flag ∷ flags) (old ∷ before) (new ∷ after) [] targets t = elim t [ ]
-turned_long (flag ∷ flags) (old ∷ before) (new ∷ after) (value ∷ row) [] t = elim t [ ]
-turned_long (flag ∷ flags) (old ∷ before) (new ∷ after) (value ∷ row) (target ∷ targets) t =
-    ap suc (turned_long flags before after row targets t.1)
+turned_long = by_turns (λ fs olds news row targets. length (news_changed fs olds news) ≡ length row) refl
+    (λ flag fs old new olds news value target row targets t rest. ap suc rest)
 
 if_some : (flags : List ℕ) (indirect some : Bool) (before after : List Field) (row targets : Row)
     → Turns flags before after row targets → list_any is_defined (news_changed flags before after) ≡ some

@@ -1,6 +1,6 @@
 -- What changes of a row come to is a change of that row. Each lemma is of one column first, whose flag is tested
 -- once (`outside`: not a key column), and then of all columns.
-use Rattle.std.proofs.Common.{◌≡◌, ℕ, Bool, true, false, cond, eqb, List, [], ◌∷◌, map, refl, ap}
+use Rattle.std.proofs.Common.{◌≡◌, ℕ, Bool, true, false, cond, eqb, List, [], ◌∷◌, map, refl, ap, subst}
 use Rattle.std.proofs.lemmas.Bool.{false≢true}
 use Rattle.cs_model.specs.declared.value.Field.{Field}
 use Rattle.cs_model.specs.declared.value.Field.TheVariants.{Undefined, Is}
@@ -36,6 +36,44 @@ new_at outside old = cond outside (PairedWith old) Blank
 abbrev pub key_at : Bool → Field → List Field → List Field
 key_at outside field rest = cond outside rest (field ∷ rest)
 
+-- ---- two records, one column after another
+
+-- the record follows a rule that the column's flag gives
+abbrev pub ObeysFlags : (Bool → Rule) → List ℕ → List Field → Type 0
+ObeysFlags at flags fields = Obeys (map (λ flag. at (eqb flag 0)) flags) fields
+
+-- These rules of a record are one for each column, by its flag and by its field in the record before.
+pub record AreByColumn (second : List ℕ → List Field → List Rule) (at : Bool → Field → Rule) : Type 0 where
+  pub none : second [] [] ≡ []
+  pub more : (flag : ℕ) (flags : List ℕ) (old : Field) (before : List Field)
+      → second (flag ∷ flags) (old ∷ before) ≡ at (eqb flag 0) old ∷ second flags before
+
+pub by_flag : (at : Bool → Rule)
+    → AreByColumn (λ flags before. map (λ flag. at (eqb flag 0)) flags) (λ outside old. at outside)
+by_flag at = record { none = refl; more = λ flag flags old before. refl }
+
+pub news_by_column : AreByColumn new_rules new_at
+news_by_column = record { none = refl; more = λ flag flags old before. refl }
+
+-- What holds of no column, and of one column more, holds of two records that follow such rules.
+pub by_columns : (first : Bool → Rule) {second : List ℕ → List Field → List Rule} {at : Bool → Field → Rule}
+    → AreByColumn second at → (P : List ℕ → List Field → List Field → Type 0) → P [] [] []
+    → ((flag : ℕ) (flags : List ℕ) (old new : Field) (before after : List Field) → ObeysRule (first (eqb flag 0)) old
+    → ObeysRule (at (eqb flag 0) old) new → P flags before after → P (flag ∷ flags) (old ∷ before) (new ∷ after))
+    → (flags : List ℕ) (before after : List Field) → ObeysFlags first flags before
+    → Obeys (second flags before) after → P flags before after
+by_columns first are P none more [] [] [] o n = none
+by_columns first are P none more [] [] (new ∷ after) o n =
+    absurd (subst (λ (rs : List Rule). Obeys rs (new ∷ after)) are.none n)
+by_columns first are P none more [] (old ∷ before) after o n = absurd o
+by_columns first are P none more (flag ∷ flags) [] after o n = absurd o
+by_columns first are P none more (flag ∷ flags) (old ∷ before) [] o n =
+    absurd (subst (λ (rs : List Rule). Obeys rs []) (are.more flag flags old before) n)
+by_columns first are P none more (flag ∷ flags) (old ∷ before) (new ∷ after) o n =
+    let m = subst (λ (rs : List Rule). Obeys rs (new ∷ after)) (are.more flag flags old before) n in
+    more flag flags old new before after (o.0, o.1) (m.0, m.1)
+    (by_columns first are P none more flags before after o.2 m.2)
+
 -- ---- INSERT, then UPDATE
 
 updated_column : (outside : Bool) (old new there : Field) → ObeysRule (new_at outside old) new
@@ -48,16 +86,20 @@ updated_column false old (Is value) there n t = absurd (false≢true n.1)
 pub updated_row : (flags : List ℕ) (old new there : List Field) → IsOldRecord flags old → IsNewRecord flags old new
     → IsRowRecord flags there
     → IsRowRecord flags (record_or new there)
-updated_row [] [] [] [] o n t = tt
-updated_row [] [] [] (there ∷ theres) o n t = elim t [ ]
-updated_row [] [] (new ∷ news) there o n t = elim n [ ]
-updated_row [] (old ∷ olds) new there o n t = elim o [ ]
-updated_row (flag ∷ flags) [] new there o n t = elim o [ ]
-updated_row (flag ∷ flags) (old ∷ olds) [] there o n t = elim n [ ]
-updated_row (flag ∷ flags) (old ∷ olds) (new ∷ news) [] o n t = elim t [ ]
-updated_row (flag ∷ flags) (old ∷ olds) (new ∷ news) (there ∷ theres) o n t =
-    let column = updated_column (eqb flag 0) old new there (n.0, n.1) (t.0, t.1) in
-    (column.0, column.1, updated_row flags olds news theres o.2 n.2 t.2)
+updated_row flags old new there o n t =
+    by_columns old_at news_by_column
+    (λ fs olds news. (theres : List Field) → IsRowRecord fs theres → IsRowRecord fs (record_or news theres))
+    (λ theres t. tt) more flags old new o n there t
+  where
+    more : (flag : ℕ) (flags : List ℕ) (old new : Field) (olds news : List Field) → ObeysRule (old_at (eqb flag 0)) old
+        → ObeysRule (new_at (eqb flag 0) old) new
+        → ((theres : List Field) → IsRowRecord flags theres → IsRowRecord flags (record_or news theres))
+        → (theres : List Field) → IsRowRecord (flag ∷ flags) theres
+        → IsRowRecord (flag ∷ flags) (record_or (new ∷ news) theres)
+    more flag flags old new olds news o n rest [] t = absurd t
+    more flag flags old new olds news o n rest (there ∷ theres) t =
+        let column = updated_column (eqb flag 0) old new there n (t.0, t.1) in
+        (column.0, column.1, rest theres t.2)
 
 updated_key_column : (outside : Bool) (old new there : Field) (rest others : List Field)
     → ObeysRule (new_at outside old) new
@@ -80,6 +122,16 @@ updated_key (flag ∷ flags) (old ∷ olds) (new ∷ news) (there ∷ theres) o 
 
 -- ---- an old record with another's fields where its own are undefined
 
+-- it follows the other's rules if it does so in each column
+or_follows : (at : Bool → Rule)
+    → ((outside : Bool) (old other : Field) → ObeysRule (old_at outside) old → ObeysRule (at outside) other
+    → ObeysRule (at outside) (field_or old other))
+    → (flags : List ℕ) (old other : List Field) → IsOldRecord flags old → ObeysFlags at flags other
+    → ObeysFlags at flags (record_or old other)
+or_follows at column =
+    by_columns old_at (by_flag at) (λ fs olds others. ObeysFlags at fs (record_or olds others)) tt
+    (λ flag fs old other olds others o p rest. let one = column (eqb flag 0) old other o p in (one.0, one.1, rest))
+
 old_or_column : (outside : Bool) (old other : Field) → ObeysRule (old_at outside) old → ObeysRule (old_at outside) other
     → ObeysRule (old_at outside) (field_or old other)
 old_or_column outside Undefined other o p = p
@@ -87,14 +139,7 @@ old_or_column outside (Is value) other o p = o
 
 pub old_or : (flags : List ℕ) (old other : List Field) → IsOldRecord flags old → IsOldRecord flags other
     → IsOldRecord flags (record_or old other)
-old_or [] [] [] o p = tt
-old_or [] [] (other ∷ others) o p = elim p [ ]
-old_or [] (old ∷ olds) other o p = elim o [ ]
-old_or (flag ∷ flags) [] other o p = elim o [ ]
-old_or (flag ∷ flags) (old ∷ olds) [] o p = elim p [ ]
-old_or (flag ∷ flags) (old ∷ olds) (other ∷ others) o p =
-    let column = old_or_column (eqb flag 0) old other (o.0, o.1) (p.0, p.1) in
-    (column.0, column.1, old_or flags olds others o.2 p.2)
+old_or = or_follows old_at old_or_column
 
 -- its own key, since it has one
 old_key_column : (outside : Bool) (old other : Field) (rest others : List Field) → ObeysRule (old_at outside) old → rest
@@ -106,11 +151,10 @@ old_key_column false (Is value) other rest others o same = ap (λ (fs : List Fie
 
 pub old_or_key : (flags : List ℕ) (old other : List Field) → IsOldRecord flags old → IsOldRecord flags other
     → key_fields flags (record_or old other) ≡ key_fields flags old
-old_or_key [] old other o p = refl
-old_or_key (flag ∷ flags) [] other o p = elim o [ ]
-old_or_key (flag ∷ flags) (old ∷ olds) [] o p = elim p [ ]
-old_or_key (flag ∷ flags) (old ∷ olds) (other ∷ others) o p = old_key_column (eqb flag 0) old other
-    (key_fields flags (record_or olds others)) (key_fields flags olds) (o.0, o.1) (old_or_key flags olds others o.2 p.2)
+old_or_key = by_columns old_at (by_flag old_at)
+    (λ fs olds others. key_fields fs (record_or olds others) ≡ key_fields fs olds) refl
+    (λ flag fs old other olds others o p.
+    old_key_column (eqb flag 0) old other (key_fields fs (record_or olds others)) (key_fields fs olds) o)
 
 -- a row's record is an old record
 row_is_old_column : (outside : Bool) (field : Field) → ObeysRule (row_at outside) field
@@ -136,11 +180,4 @@ deleted_column false (Is value) other o p = o
 
 pub deleted_row : (flags : List ℕ) (old other : List Field) → IsOldRecord flags old → IsRowRecord flags other
     → IsRowRecord flags (record_or old other)
-deleted_row [] [] [] o p = tt
-deleted_row [] [] (other ∷ others) o p = elim p [ ]
-deleted_row [] (old ∷ olds) other o p = elim o [ ]
-deleted_row (flag ∷ flags) [] other o p = elim o [ ]
-deleted_row (flag ∷ flags) (old ∷ olds) [] o p = elim p [ ]
-deleted_row (flag ∷ flags) (old ∷ olds) (other ∷ others) o p =
-    let column = deleted_column (eqb flag 0) old other (o.0, o.1) (p.0, p.1) in
-    (column.0, column.1, deleted_row flags olds others o.2 p.2)
+deleted_row = or_follows row_at deleted_column

@@ -15,6 +15,7 @@ use Rattle.cs_model.specs.Section.{Section}
 use Rattle.cs_group.proofs.one_row.Merging.{IsValidChange, key_in}
 use Rattle.cs_group.proofs.one_row.Through.{AreValidChanges}
 use Rattle.cs_group.proofs.one_row.Valid.{IsOldRecord, IsNewRecord, ObeysRule, old_at, new_at, key_at}
+use Rattle.cs_group.proofs.one_row.Valid.{by_columns, news_by_column}
 use Rattle.cs_group.specs.Group.{changed_row}
 use Rattle.cs_invert.specs.Inverse.{inverse, inverse_by, inverse_change, inverse_new, inverse_old}
 
@@ -27,14 +28,9 @@ inverse_old_column false old new o n = o
 
 olds_fit : (flags : List ℕ) (before after : List Field) → IsOldRecord flags before → IsNewRecord flags before after
     → IsOldRecord flags (inverse_old flags before after)
-olds_fit [] [] [] o n = tt
-olds_fit [] [] (new ∷ after) o n = elim n [ ]
-olds_fit [] (old ∷ before) after o n = elim o [ ]
-olds_fit (flag ∷ flags) [] after o n = elim o [ ]
-olds_fit (flag ∷ flags) (old ∷ before) [] o n = elim n [ ]
-olds_fit (flag ∷ flags) (old ∷ before) (new ∷ after) o n =
-    let column = inverse_old_column (eqb flag 0) old new (o.0, o.1) (n.0, n.1) in
-    (column.0, column.1, olds_fit flags before after o.2 n.2)
+olds_fit = by_columns old_at news_by_column (λ fs olds news. IsOldRecord fs (inverse_old fs olds news)) tt
+    (λ flag fs old new olds news o n rest.
+    let column = inverse_old_column (eqb flag 0) old new o n in (column.0, column.1, rest))
 
 -- ---- the new record
 
@@ -48,14 +44,11 @@ inverse_new_column false old new o n = n
 
 news_fit : (flags : List ℕ) (before after : List Field) → IsOldRecord flags before → IsNewRecord flags before after
     → IsNewRecord flags (inverse_old flags before after) (inverse_new flags before after)
-news_fit [] [] [] o n = tt
-news_fit [] [] (new ∷ after) o n = elim n [ ]
-news_fit [] (old ∷ before) after o n = elim o [ ]
-news_fit (flag ∷ flags) [] after o n = elim o [ ]
-news_fit (flag ∷ flags) (old ∷ before) [] o n = elim n [ ]
-news_fit (flag ∷ flags) (old ∷ before) (new ∷ after) o n =
-    let column = inverse_new_column (eqb flag 0) old new (o.0, o.1) (n.0, n.1) in
-    (column.0, column.1, news_fit flags before after o.2 n.2)
+news_fit =
+    by_columns old_at news_by_column
+    (λ fs olds news. IsNewRecord fs (inverse_old fs olds news) (inverse_new fs olds news)) tt
+    (λ flag fs old new olds news o n rest.
+    let column = inverse_new_column (eqb flag 0) old new o n in (column.0, column.1, rest))
 
 -- ---- the key
 
@@ -66,12 +59,10 @@ inverse_key_column false old new rest others is = ap (λ (fs : List Field). old 
 
 inverse_key : (flags : List ℕ) (before after : List Field) → IsOldRecord flags before → IsNewRecord flags before after
     → key_fields flags (inverse_old flags before after) ≡ key_fields flags before
-inverse_key [] before after o n = refl
-inverse_key (flag ∷ flags) [] after o n = elim o [ ]
-inverse_key (flag ∷ flags) (old ∷ before) [] o n = elim n [ ]
-inverse_key (flag ∷ flags) (old ∷ before) (new ∷ after) o n = inverse_key_column (eqb flag 0) old new
-    (key_fields flags (inverse_old flags before after)) (key_fields flags before)
-    (inverse_key flags before after o.2 n.2)
+inverse_key = by_columns old_at news_by_column
+    (λ fs olds news. key_fields fs (inverse_old fs olds news) ≡ key_fields fs olds) refl
+    (λ flag fs old new olds news o n.
+    inverse_key_column (eqb flag 0) old new (key_fields fs (inverse_old fs olds news)) (key_fields fs olds))
 
 -- ---- one change
 

@@ -1,55 +1,31 @@
 -- The law of withdrawals: a withdrawal takes back its changeset and leaves what others did that change no row of it.
-use Rattle.std.proofs.Common.{◌≡◌, ◌∙◌, ℕ, Bool, true, List, [], Option, Some, None, Ok, map as list_map}
+use Rattle.std.proofs.Common.{◌≡◌, ◌∙◌, Bool, List, Option, Some, None, Ok, map as list_map}
 use Rattle.std.proofs.Common.{refl, ap, sym, subst}
-use Rattle.std.proofs.lemmas.Bool.{false≢true}
-use Rattle.std.proofs.lemmas.Bool.Decides.{Decides-eqb}
-use Rattle.std.proofs.lemmas.List.Quantifiers.{position-Some}
-use Rattle.std.specs.Prelude.{filter, get_or}
+use Rattle.std.specs.Prelude.{filter}
 use Rattle.std.specs.FinMap as map
 use Rattle.cs_model.specs.declared.change.Change.{Change}
 use Rattle.cs_model.specs.declared.row_key.RowKey.{RowKey}
 use Rattle.cs_model.specs.declared.shape.Shape.{Shape}
 use Rattle.cs_model.specs.Changeset.{IsChangeset}
-use Rattle.cs_model.specs.Schema.{same_shape, table_index}
 use Rattle.cs_model.specs.Section.{Section}
 use Rattle.cs_apply.specs.Columns.{HaveColumns, table_flags}
 use Rattle.cs_apply.specs.Single.{changes_of, single, single_from, with_rows}
-use Rattle.cs_apply.specs.State.{Rows, TableState, compatible}
+use Rattle.cs_apply.specs.State.{Rows, TableState}
 use Rattle.cs_apply.proofs.rows_by_key.Keys.{exact_keys, keys_total}
-use Rattle.cs_apply.proofs.rows_by_key.Lengths.{kept_at}
 use Rattle.cs_apply.proofs.effects.OneByOne.{rows_found, with}
 use Rattle.cs_group.specs.Group.{group_of, left_of}
 use Rattle.cs_group.proofs.one_row.Effects.{Row}
 use Rattle.cs_group.proofs.all_tables.Fitting.{group_fits}
 use Rattle.cs_group.proofs.all_tables.Keyed.{each_applies, on_named, touch}
-use Rattle.cs_group.proofs.all_tables.Law.{flags_of_table, group_applies, long_at, seen_of, valid_of_table}
+use Rattle.cs_group.proofs.all_tables.Law.{flags_of_table, group_applies, long_at, one_shape, seen_of, valid_of_table}
 use Rattle.cs_group.proofs.one_row.OneRow.{Packing, on_list}
-use Rattle.cs_group.proofs.all_tables.Tables.{IsOne, all_with, group_by_table, same_is}
+use Rattle.cs_group.proofs.all_tables.Tables.{all_with, group_by_table}
 use Rattle.cs_group.proofs.one_row.Through.{AreValidChanges, as_list, mine, mine_combined}
-use Rattle.cs_group.proofs.all_tables.Together.{all_apply, at_table, named_is, of_table}
+use Rattle.cs_group.proofs.all_tables.Together.{all_apply, named_is, of_table}
 use Rattle.cs_invert.specs.Inverse.{AreApart, inverse_change, withdrawal_of}
 use Rattle.cs_invert.proofs.withdrawals.KeyBack.{mine_if_valid, one_of_both, row_taken_back, row_of_inverse}
 
--- ---- the table of a key
-
--- the table at an index has the shape that is compatible with it
-shape_by_index : (schema : List Shape) (kept : List Bool) (table : ℕ) (shape : Shape)
-    → of_table schema kept table shape ≡ true
-    → get_or schema table (record { name = []; flags = [] }) ≡ shape
-shape_by_index schema kept table shape e = go (compatible schema kept shape) refl e
-  where
-    go : (o : Option ℕ) → compatible schema kept shape ≡ o → at_table table o ≡ true
-        → get_or schema table (record { name = []; flags = [] }) ≡ shape
-    go None is e = absurd (false≢true e)
-    go (Some i) is e =
-        let same : i ≡ table = (Decides-eqb i table).0 e in
-        let found : table_index schema shape ≡ Some i = kept_at kept (table_index schema shape) i is in
-        let there = position-Some (λ t. same_shape t shape) schema i (record { name = []; flags = [] }) found in
-        ap (λ n. get_or schema n (record { name = []; flags = [] })) (sym same)
-        ∙ same_is (get_or schema i (record { name = []; flags = [] })) shape there.1
-
-only_shape : (schema : List Shape) (kept : List Bool) (table : ℕ) → IsOne (of_table schema kept table)
-only_shape schema kept table a b e f = sym (shape_by_index schema kept table a e) ∙ shape_by_index schema kept table b f
+-- ---- the changes of a key
 
 -- the changes of a key, as those of its table that are of its row
 abbrev of_key : List Shape → List Bool → RowKey → List Section → List Change
@@ -77,7 +53,7 @@ group_of_key schema kept key sections is =
     let flags = table_flags schema key.table in
     let own = flags_of_table schema kept key.table in
     let P = of_table schema kept key.table in
-    ap (mine flags key.bytes) (group_by_table P flags (only_shape schema kept key.table) own sections)
+    ap (mine flags key.bytes) (group_by_table P flags (one_shape schema kept key.table) own sections)
     ∙ mine_combined flags key.bytes (all_with P sections) (valid_of_table P flags own sections is)
 
 group_is_valid : (schema : List Shape) (kept : List Bool) (key : RowKey) (sections : List Section)
@@ -123,7 +99,7 @@ key_back old mid new sections others is have apart one group two key =
     ∙ each_applies schema kept (changes_of (group_of sections)) 0 old.rows mid key group)
     (sym (key_changes schema kept key others (map.get mid key))
     ∙ each_applies schema kept (changes_of others) 0 mid new key two)
-    (one_of_both P flags key.bytes (only_shape schema kept key.table) own sections others apart) in (
+    (one_of_both P flags key.bytes (one_shape schema kept key.table) own sections others apart) in (
       back.0,
       key_changes schema kept key others (map.get old.rows key) ∙ back.1,
       key_changes schema kept key (withdrawal_of sections) (map.get new key) ∙ back.2,

@@ -169,33 +169,20 @@ pub record Again (f : Field) (text rest : List ℕ) : Type 0 where
   pub whole : text ++ rest ≡ byte ∷ body
   pub reads : typed_in byte body ≡ (f, rest)
 
+again_by : (byte : ℕ) (f : Field) (text body rest : List ℕ) → text ≡ byte ∷ body
+    → typed_in byte (body ++ rest) ≡ (f, rest) → Again f text rest
+again_by byte f text body rest parts reads =
+    record { byte = byte; body = body ++ rest; whole = ap (λ (w : List ℕ). w ++ rest) parts; reads = reads }
+
 pub typed_back : (f : Field) (text rest : List ℕ) → SpellsField text f → Fits f → Again f text rest
-typed_back Undefined text rest spells fits =
-    record { byte = 0; body = rest; whole = ap (λ (w : List ℕ). w ++ rest) spells; reads = none_back rest }
+typed_back Undefined text rest spells fits = again_by 0 Undefined text [] rest spells (none_back rest)
 typed_back (Is (Integer n)) text rest spells fits =
-    record {
-      byte = 1;
-      body = to_be_bytes w64 (cast_unsigned w64 n)
-          ++ rest;
-      whole = ap (λ (w : List ℕ). w ++ rest) spells;
-      reads = integer_back n rest fits;
-    }
+    again_by 1 (Is (Integer n)) text (to_be_bytes w64 (cast_unsigned w64 n)) rest spells (integer_back n rest fits)
 typed_back (Is (Text bytes)) text rest spells fits =
-    record {
-      byte = 3;
-      body = spells.0 ++ rest;
-      whole = ap (λ (w : List ℕ). w ++ rest) spells.1;
-      reads = text_back spells.0 bytes rest spells.2;
-    }
+    again_by 3 (Is (Text bytes)) text spells.0 rest spells.1 (text_back spells.0 bytes rest spells.2)
 typed_back (Is (Blob bytes)) text rest spells fits =
-    record {
-      byte = 4;
-      body = spells.0 ++ rest;
-      whole = ap (λ (w : List ℕ). w ++ rest) spells.1;
-      reads = blob_back spells.0 bytes rest spells.2;
-    }
-typed_back (Is Null) text rest spells fits =
-    record { byte = 5; body = rest; whole = ap (λ (w : List ℕ). w ++ rest) spells; reads = null_back rest }
+    again_by 4 (Is (Blob bytes)) text spells.0 rest spells.1 (blob_back spells.0 bytes rest spells.2)
+typed_back (Is Null) text rest spells fits = again_by 5 (Is Null) text [] rest spells (null_back rest)
 
 -- a field's own bytes spell it
 own_length : (bytes : List ℕ) → IsLength (length bytes) → SpellsBytes (varint (length bytes) ++ bytes) bytes

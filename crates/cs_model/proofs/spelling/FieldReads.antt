@@ -126,15 +126,26 @@ only_typed bytes rest kind b n f whole is within reads field len fits inside spe
     omega (arith, ap length behind, length-drop n rest, length-drop len bytes, ap length whole) in
     cc
 
-pub text_typed : (rest text : List ℕ) (len : ℕ) → SpellsBytes (take len rest) text
+text_typed : (rest text : List ℕ) (len : ℕ) → SpellsBytes (take len rest) text
     → typed_in 3 rest ≡ (Is (Text text), drop len rest)
 text_typed rest text len s = ap (λ (w : List ℕ). typed_in 3 w) (sym (take-append-drop len rest))
     ∙ text_back (take len rest) text (drop len rest) s
 
-pub blob_typed : (rest text : List ℕ) (len : ℕ) → SpellsBytes (take len rest) text
+blob_typed : (rest text : List ℕ) (len : ℕ) → SpellsBytes (take len rest) text
     → typed_in 4 rest ≡ (Is (Blob text), drop len rest)
 blob_typed rest text len s = ap (λ (w : List ℕ). typed_in 4 w) (sym (take-append-drop len rest))
     ∙ blob_back (take len rest) text (drop len rest) s
+
+-- a text that is read is the only one, and so is a BLOB
+pub only_text : (bytes rest : List ℕ) (kind len : ℕ) (text : List ℕ) → bytes ≡ kind ∷ rest → kind ≡ 3
+    → (len ≤ length rest) × SpellsBytes (take len rest) text → OnlyField bytes (Is (Text text)) (1 + len)
+only_text bytes rest kind len text whole is found =
+    only_typed bytes rest kind 3 len (Is (Text text)) whole is found.0 (text_typed rest text len found.1)
+
+pub only_blob : (bytes rest : List ℕ) (kind len : ℕ) (text : List ℕ) → bytes ≡ kind ∷ rest → kind ≡ 4
+    → (len ≤ length rest) × SpellsBytes (take len rest) text → OnlyField bytes (Is (Blob text)) (1 + len)
+only_blob bytes rest kind len text whole is found =
+    only_typed bytes rest kind 4 len (Is (Blob text)) whole is found.0 (blob_typed rest text len found.1)
 
 pub integer_typed : (rest : List ℕ) (n : ℤ) → 8 ≤ length rest → n ≡ cast_signed w64 (from_be_bytes w64 (take 8 rest))
     → typed_in 1 rest ≡ (Is (Integer n), drop 8 rest)
@@ -208,3 +219,11 @@ pub no_field_read : (bytes rest : List ℕ) (kind len : ℕ) (field : Field) →
 no_field_read bytes rest kind len field whole undefined few counted null within spells =
     none_front len kind rest field undefined few counted null (omega (arith, ap length whole))
     (subst (λ (w : List ℕ). SpellsField (take len w) field) whole spells)
+
+-- where a text or a BLOB would stand, no bytes behind their length do
+pub no_counted_field : (bytes rest : List ℕ) (kind len : ℕ) (field : Field) → bytes ≡ kind ∷ rest → 3 ≤ kind → kind < 5
+    → NoneCounted rest → len ≤ length bytes → SpellsField (take len bytes) field
+    → ⊥
+no_counted_field bytes rest kind len field whole low high counted within spells =
+    no_field_read bytes rest kind len field whole (λ is. omega arith) (λ is. absurd (omega arith)) (λ l h. counted)
+    (λ is. omega arith) within spells

@@ -12,7 +12,7 @@ use Rattle.cs_parse.specs.declared.stop.ParseRefusal.{ParseRefusal}
 use Rattle.cs_parse.specs.Front.{Front, after_item, front_at, changes_front}
 use Rattle.cs_parse.specs.Reading.{change_at, ends_section}
 use Rattle.cs_parse.proofs.reading.Steps.{back_fits}
-use Rattle.cs_parse.proofs.reading.ManyLaws.{IsReader}
+use Rattle.cs_parse.proofs.reading.ManyLaws.{IsReader, rest_is_shorter}
 use Rattle.cs_parse.proofs.reading.ChangeLaws.{IsChangeBy, IsAny, change_reader}
 
 -- ---- one step
@@ -121,13 +121,7 @@ module _ {A : Type 0} (over : List ℕ → Bool) (read : List ℕ → Result (A 
           | inl x ↦
               let first = reader.takes bytes x.0 fits x.1 in
               let goes = front_goes over read fuel bytes x.0.0 x.0.1 more x.1 in
-              let less : length x.0.1 ≤ fuel =
-              omega (
-                arith,
-                ap length first.0.parts,
-                length-append first.0.text x.0.1,
-                reader.long first.0.text x.0.0 first.0.spelled,
-              ) in
+              let less = rest_is_shorter over read Spelling IsItem Follows reader fuel bytes x.0 first.0 enough in
               ap (λ (f : Front A). over f.rest) goes
               ∙ front_ends fuel x.0.1 (back_fits bytes first.0.text x.0.1 first.0.parts fits) less
               (sym (ap (λ (f : Front A). f.why) goes) ∙ none)

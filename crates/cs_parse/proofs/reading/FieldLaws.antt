@@ -1,13 +1,13 @@
 -- Fields and records: the bytes encode what is read, and every encoding is read.
-use Rattle.std.proofs.Common.{◌≡◌, ℕ, zero, suc, true, cond, eqb, ltb, List, [], ◌∷◌, ◌++◌, Some, None, Ok, refl, sym}
-use Rattle.std.proofs.Common.{ap, subst, ◌∙◌, append_assoc, arith}
+use Rattle.std.proofs.Common.{◌≡◌, ℕ, ℤ, zero, suc, ◌≤◌, true, cond, eqb, ltb, Option, List, length, [], ◌∷◌, ◌++◌}
+use Rattle.std.proofs.Common.{Some, None, is_none, Ok, refl, sym, ap, subst, ◌∙◌, append_assoc, arith}
 use Rattle.std.proofs.lemmas.Bool.{lt-ltb}
 use Rattle.cs_model.specs.declared.value.Value.TheVariants.{Integer, Text, Blob, Null}
 use Rattle.cs_model.specs.declared.value.Field.{Field}
 use Rattle.cs_model.specs.declared.value.Field.TheVariants.{Undefined, Is}
 use Rattle.cs_model.specs.Rule.{Rule, Key, Given, Open, Blank, PairedWith, meets}
 use Rattle.cs_model.specs.Changeset.{IsField, Obeys}
-use Rattle.cs_model.specs.Text.{SpellsField, SpellsEach}
+use Rattle.cs_model.specs.Text.{SpellsBytes, SpellsField, SpellsEach}
 use Rattle.cs_parse.specs.declared.fault.FaultKind.TheVariants.{BadType, Real}
 use Rattle.cs_parse.specs.Reading.{◌>>=◌, typed_at, unless_refused, field_at, record_at, integer_at, counted_at}
 use Rattle.cs_parse.specs.Place.{rule_refusal, type_refusal}
@@ -23,58 +23,56 @@ type_byte (Is (Text bytes)) = 3
 type_byte (Is (Blob bytes)) = 4
 type_byte (Is Null) = 5
 
+by_type : (P : Field → Type 0) → P Undefined → ((number : ℤ) → P (Is (Integer number)))
+    → ((bytes : List ℕ) → P (Is (Text bytes))) → ((bytes : List ℕ) → P (Is (Blob bytes))) → P (Is Null)
+    → (field : Field) → P field
+by_type P undefined integer text blob null Undefined = undefined
+by_type P undefined integer text blob null (Is (Integer number)) = integer number
+by_type P undefined integer text blob null (Is (Text bytes)) = text bytes
+by_type P undefined integer text blob null (Is (Blob bytes)) = blob bytes
+by_type P undefined integer text blob null (Is Null) = null
+
 -- a type byte is refused exactly where the field wouldn't follow the rule
+abbrev RefusedAsDue : Rule → Field → Type 0
+RefusedAsDue rule field = meets rule field ≡ is_none (type_refusal rule (type_byte field))
+
+refused_as_due : (rule : Rule) (field : Field) → RefusedAsDue rule field
+refused_as_due Key = by_type (RefusedAsDue Key) refl (λ n. refl) (λ bytes. refl) (λ bytes. refl) refl
+refused_as_due Given = by_type (RefusedAsDue Given) refl (λ n. refl) (λ bytes. refl) (λ bytes. refl) refl
+refused_as_due Open = by_type (RefusedAsDue Open) refl (λ n. refl) (λ bytes. refl) (λ bytes. refl) refl
+refused_as_due Blank = by_type (RefusedAsDue Blank) refl (λ n. refl) (λ bytes. refl) (λ bytes. refl) refl
+refused_as_due (PairedWith Undefined) =
+    by_type (RefusedAsDue (PairedWith Undefined)) refl (λ n. refl) (λ bytes. refl) (λ bytes. refl) refl
+refused_as_due (PairedWith (Is old)) =
+    by_type (RefusedAsDue (PairedWith (Is old))) refl (λ n. refl) (λ bytes. refl) (λ bytes. refl) refl
+
+is_none_gives : {A : Type 0} (o : Option A) → is_none o ≡ true → o ≡ None
+is_none_gives None h = refl
+is_none_gives (Some x) h = absurd cc
+
 pub not_refused : (rule : Rule) (field : Field) → meets rule field ≡ true → type_refusal rule (type_byte field) ≡ None
-not_refused Key Undefined h = absurd cc
-not_refused Key (Is (Integer number)) h = refl
-not_refused Key (Is (Text bytes)) h = refl
-not_refused Key (Is (Blob bytes)) h = refl
-not_refused Key (Is Null) h = absurd cc
-not_refused Given Undefined h = absurd cc
-not_refused Given (Is (Integer number)) h = refl
-not_refused Given (Is (Text bytes)) h = refl
-not_refused Given (Is (Blob bytes)) h = refl
-not_refused Given (Is Null) h = refl
-not_refused Open Undefined h = refl
-not_refused Open (Is (Integer number)) h = refl
-not_refused Open (Is (Text bytes)) h = refl
-not_refused Open (Is (Blob bytes)) h = refl
-not_refused Open (Is Null) h = refl
-not_refused Blank Undefined h = refl
-not_refused Blank (Is value) h = absurd cc
-not_refused (PairedWith Undefined) Undefined h = refl
-not_refused (PairedWith Undefined) (Is value) h = absurd cc
-not_refused (PairedWith (Is old)) Undefined h = absurd cc
-not_refused (PairedWith (Is old)) (Is (Integer number)) h = refl
-not_refused (PairedWith (Is old)) (Is (Text bytes)) h = refl
-not_refused (PairedWith (Is old)) (Is (Blob bytes)) h = refl
-not_refused (PairedWith (Is old)) (Is Null) h = refl
+not_refused rule field h =
+    is_none_gives (type_refusal rule (type_byte field)) (sym (refused_as_due rule field) ∙ h)
 
 pub follows : (rule : Rule) (field : Field) → type_refusal rule (type_byte field) ≡ None → meets rule field ≡ true
-follows Key Undefined h = absurd cc
-follows Key (Is (Integer number)) h = refl
-follows Key (Is (Text bytes)) h = refl
-follows Key (Is (Blob bytes)) h = refl
-follows Key (Is Null) h = absurd cc
-follows Given Undefined h = absurd cc
-follows Given (Is value) h = refl
-follows Open field h = refl
-follows Blank Undefined h = refl
-follows Blank (Is (Integer number)) h = absurd cc
-follows Blank (Is (Text bytes)) h = absurd cc
-follows Blank (Is (Blob bytes)) h = absurd cc
-follows Blank (Is Null) h = absurd cc
-follows (PairedWith Undefined) Undefined h = refl
-follows (PairedWith Undefined) (Is (Integer number)) h = absurd cc
-follows (PairedWith Undefined) (Is (Text bytes)) h = absurd cc
-follows (PairedWith Undefined) (Is (Blob bytes)) h = absurd cc
-follows (PairedWith Undefined) (Is Null) h = absurd cc
-follows (PairedWith (Is old)) Undefined h = absurd cc
-follows (PairedWith (Is old)) (Is value) h = refl
+follows rule field none = refused_as_due rule field ∙ ap is_none none
 
 -- a field that follows its rule, and its spelling
 abbrev FieldReads : Rule → List ℕ → Field × List ℕ → Type 0
 FieldReads rule bytes x = Takes SpellsField bytes x × IsField x.0 × (meets rule x.0 ≡ true)
+
+-- a length and so many bytes behind a type byte
+counted_kind_takes : (rule : Rule) (kind : ℕ) (made : List ℕ → Field) (rest : List ℕ) (x : Field × List ℕ)
+    → ((text bytes : List ℕ) → SpellsBytes text bytes → length bytes ≤ 16777216 → SpellsField (kind ∷ text) (made bytes)
+    × IsField (made bytes))
+    → ((bytes : List ℕ) → meets rule (made bytes) ≡ true)
+    → (counted_at rest >>= λ bytes. Ok (made bytes.0, bytes.1)) ≡ Ok x → FieldReads rule (kind ∷ rest) x
+counted_kind_takes rule kind made rest x spelled met e =
+    let b = bind_ok (counted_at rest) (λ bytes. Ok (made bytes.0, bytes.1)) x e in
+    let t = counted_takes rest b.0 b.1 in
+    let is = spelled t.0.text b.0.0 t.0.spelled t.1 in
+    subst (λ (y : Field × List ℕ). FieldReads rule (kind ∷ rest) y) (ok_is (made b.0.0, b.0.1) x b.2)
+    (record { text = kind ∷ t.0.text; parts = ap (λ w. kind ∷ w) t.0.parts; spelled = is.0 }, is.1, met b.0.0)
 
 pub typed_takes : (rule : Rule) (byte : ℕ) (rest : List ℕ) (x : Field × List ℕ) → AreBytes rest → type_refusal rule byte
     ≡ None → typed_at byte rest ≡ Ok x → FieldReads rule (byte ∷ rest) x
@@ -92,21 +90,11 @@ typed_takes rule (suc zero) rest x fits none e =
     )
 typed_takes rule (suc (suc zero)) rest x fits none e = absurd cc
 typed_takes rule (suc (suc (suc zero))) rest x fits none e =
-    let b = bind_ok (counted_at rest) (λ bytes. Ok (Is (Text bytes.0), bytes.1)) x e in
-    let t = counted_takes rest b.0 b.1 in
-    subst (λ (y : Field × List ℕ). FieldReads rule (3 ∷ rest) y) (ok_is (Is (Text b.0.0), b.0.1) x b.2) (
-      record { text = 3 ∷ t.0.text; parts = ap (λ w. 3 ∷ w) t.0.parts; spelled = (t.0.text, refl, t.0.spelled) },
-      t.1,
-      follows rule (Is (Text b.0.0)) none,
-    )
+    counted_kind_takes rule 3 (λ bytes. Is (Text bytes)) rest x (λ text bytes h long. ((text, refl, h), long))
+    (λ bytes. follows rule (Is (Text bytes)) none) e
 typed_takes rule (suc (suc (suc (suc zero)))) rest x fits none e =
-    let b = bind_ok (counted_at rest) (λ bytes. Ok (Is (Blob bytes.0), bytes.1)) x e in
-    let t = counted_takes rest b.0 b.1 in
-    subst (λ (y : Field × List ℕ). FieldReads rule (4 ∷ rest) y) (ok_is (Is (Blob b.0.0), b.0.1) x b.2) (
-      record { text = 4 ∷ t.0.text; parts = ap (λ w. 4 ∷ w) t.0.parts; spelled = (t.0.text, refl, t.0.spelled) },
-      t.1,
-      follows rule (Is (Blob b.0.0)) none,
-    )
+    counted_kind_takes rule 4 (λ bytes. Is (Blob bytes)) rest x (λ text bytes h long. ((text, refl, h), long))
+    (λ bytes. follows rule (Is (Blob bytes)) none) e
 typed_takes rule (suc (suc (suc (suc (suc zero))))) rest x fits none e =
     subst (λ (y : Field × List ℕ). FieldReads rule (5 ∷ rest) y) (ok_is (Is Null, rest) x e)
     (record { text = 5 ∷ []; parts = refl; spelled = refl }, tt, follows rule (Is Null) none)

@@ -1,8 +1,8 @@
 -- Headers: the bytes encode what is read, and every encoding is read.
-use Rattle.std.proofs.Common.{◌≡◌, ℕ, suc, ◌≤◌, inl, inr, Bool, true, false, cond, ltb, List, [], ◌∷◌, ◌++◌, length}
-use Rattle.std.proofs.Common.{take, drop, Result, Ok, Err, refl, sym, ap, subst, ◌∙◌, append_assoc, arith}
+use Rattle.std.proofs.Common.{◌≡◌, ℕ, suc, ◌<◌, ◌≤◌, inl, inr, Bool, true, false, cond, ltb, List, [], ◌∷◌, ◌++◌}
+use Rattle.std.proofs.Common.{length, take, drop, Result, Ok, Err, refl, sym, ap, subst, ◌∙◌, append_assoc, arith}
 use Rattle.std.specs.Prelude.{nat_lt}
-use Rattle.std.specs.List.{list_any}
+use Rattle.std.specs.List.{list_all, list_any}
 use Rattle.std.proofs.lemmas.Bool.{ltb-false, le-ltb}
 use Rattle.std.proofs.lemmas.List.{take_at, drop_at, take-append-drop, length-append, length-take}
 use Rattle.cs_model.specs.declared.shape.Shape.{Shape}
@@ -56,6 +56,19 @@ named_by flags = name_at flags.1 >>= shaped flags.0
 abbrev pub HeaderTextOf : List ℕ → Shape → Type 0
 HeaderTextOf text shape = SpellsHeader (84 ∷ text) shape
 
+pub shape_of_parts : (count : ℕ) (flags name : List ℕ) → length flags ≡ count → 0 < count → count ≤ 2000
+    → any_key flags ≡ true → 0 < length name → length name ≤ 1024 → list_all (λ byte. nat_lt 0 byte) name ≡ true
+    → IsShape (record { name = name; flags = flags })
+shape_of_parts count flags name is some few key named short no_zero =
+    record {
+      columns = omega (arith, is, some);
+      not_more_columns = omega (arith, is, few);
+      key = key;
+      named = named;
+      not_longer = short;
+      no_zero = no_zero;
+    }
+
 joined_header : (a b c d : List ℕ) → (((a ++ b) ++ c) ++ 0 ∷ []) ++ d ≡ a ++ (b ++ (c ++ 0 ∷ d))
 joined_header a b c d = simp append_assoc
 
@@ -76,15 +89,7 @@ header_takes bytes x e =
     let shape : Shape = record { name = c.0.0; flags = b.0.0 } in
     let spelled : HeaderTextOf text shape =
     record { count = count; parts = refl; is_count = subst (λ n. IsVarint count n) (sym t1.1) t0.0.spelled } in
-    let valid : IsShape shape =
-    record {
-      columns = omega (arith, t1.1, t0.1);
-      not_more_columns = omega (arith, t1.1, t0.2);
-      key = t1.2;
-      named = t2.1;
-      not_longer = t2.0.1;
-      no_zero = t2.0.2;
-    } in
+    let valid = shape_of_parts a.0.0 b.0.0 c.0.0 t1.1 t0.1 t0.2 t1.2 t2.1 t2.0.1 t2.0.2 in
     subst (λ (y : Shape × List ℕ). Takes HeaderTextOf bytes y × IsShape y.0) (ok_is (shape, c.0.1) x c.2)
     (record { text = text; parts = whole; spelled = spelled }, valid)
 

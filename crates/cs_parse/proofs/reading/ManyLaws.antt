@@ -24,6 +24,15 @@ pub record IsReader {A : Type 0} (over : List ℕ → Bool) (read : List ℕ →
   pub goes_on : (text : List ℕ) (a : A) (rest : List ℕ) → Spelling text a → over (text ++ rest) ≡ false
   pub follows : (text : List ℕ) (a : A) (rest : List ℕ) → Spelling text a → Follows (text ++ rest)
 
+-- what a first item leaves is shorter
+pub rest_is_shorter : {A : Type 0} (over : List ℕ → Bool) (read : List ℕ → Result (A × List ℕ) ParseRefusal)
+    (Spelling : List ℕ → A → Type 0) (IsItem : A → Type 0) (Follows : List ℕ → Type 0)
+    → IsReader over read Spelling IsItem Follows
+    → (fuel : ℕ) (bytes : List ℕ) (x : A × List ℕ) → Takes Spelling bytes x → length bytes ≤ suc fuel
+    → length x.1 ≤ fuel
+rest_is_shorter over read Spelling IsItem Follows reader fuel bytes x first enough =
+    omega (arith, ap length first.parts, length-append first.text x.1, reader.long first.text x.0 first.spelled)
+
 abbrev pub TakesEach : {A : Type 0} → (List ℕ → Bool) → (List ℕ → A → Type 0) → (A → Type 0) → List ℕ → List A × List ℕ
     → Type 0
 TakesEach over Spelling IsItem bytes x = Takes (SpellsEach Spelling) bytes x × AllByRecursion IsItem x.0
@@ -53,13 +62,7 @@ many_takes over read Spelling IsItem Follows reader (suc fuel) bytes x fits enou
           (sym (many_more over read fuel bytes more) ∙ e) in
           let b = bind_ok (many_at over read fuel a.0.1) (λ others. Ok (a.0.0 ∷ others.0, others.1)) x a.2 in
           let first = reader.takes bytes a.0 fits a.1 in
-          let less : length a.0.1 ≤ fuel =
-          omega (
-            arith,
-            ap length first.0.parts,
-            length-append first.0.text a.0.1,
-            reader.long first.0.text a.0.0 first.0.spelled,
-          ) in
+          let less = rest_is_shorter over read Spelling IsItem Follows reader fuel bytes a.0 first.0 enough in
           let others = many_takes over read Spelling IsItem Follows reader fuel a.0.1 b.0
           (back_fits bytes first.0.text a.0.1 first.0.parts fits) less b.1 in
           let whole : bytes ≡ (first.0.text ++ others.0.text) ++ b.0.1 =

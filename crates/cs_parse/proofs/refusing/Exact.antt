@@ -36,6 +36,22 @@ pub record ExactStopped {A : Type 0} (T : List ℕ → A → Type 0) (S : List �
   pub stands : S front place
   pub is_wrong : wrong place byte ≡ Some kind
 
+pub stopped_here : {A : Type 0} {T : List ℕ → A → Type 0} {S : List ℕ → BytePlace → Type 0} (front : List ℕ) (byte : ℕ)
+    (back : List ℕ) (left : ℕ) (kind : FaultKind) (place : BytePlace) → left ≡ suc (length back) → Completes T front
+    → S front place → wrong place byte ≡ Some kind → ExactStopped T S (front ++ byte ∷ back) left kind
+stopped_here front byte back left kind place left_is alive stands is_wrong =
+    record {
+      front = front;
+      byte = byte;
+      back = back;
+      place = place;
+      parts = refl;
+      left_is = left_is;
+      alive = alive;
+      stands = stands;
+      is_wrong = is_wrong;
+    }
+
 -- Where a part behind a text stops, all stops: at the same byte, behind that text and what stands before it.
 pub stopped_behind : {A B : Type 0} {T : List ℕ → A → Type 0} {U : List ℕ → B → Type 0}
     {S P : List ℕ → BytePlace → Type 0} (bytes text rest : List ℕ) (left : ℕ) (kind : FaultKind) → bytes ≡ text ++ rest

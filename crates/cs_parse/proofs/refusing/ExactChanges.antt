@@ -22,7 +22,8 @@ use Rattle.cs_parse.proofs.reading.Steps.{Takes, done, ok_is, steps_chosen}
 use Rattle.cs_parse.proofs.reading.ChangeLaws.{IsChangeBy, SpellsRecords, change_made, mark_spells, op_is, by_byte}
 use Rattle.cs_parse.proofs.reading.ChangeLaws.{op_no_header}
 use Rattle.cs_parse.proofs.refusing.Exact.{Completes, ExactStopped, ExactReader, Nowhere, SeqText, SeqPlace, seq}
-use Rattle.cs_parse.proofs.refusing.Exact.{stopped_behind, seq_exact, mapped_exact, renamed, same_reader}
+use Rattle.cs_parse.proofs.refusing.Exact.{stopped_here, stopped_behind, seq_exact, mapped_exact, renamed}
+use Rattle.cs_parse.proofs.refusing.Exact.{same_reader}
 use Rattle.cs_parse.proofs.refusing.ExactFields.{RecordText, record_exact}
 
 abbrev Fields : Type 0
@@ -30,57 +31,56 @@ Fields = List Field × List Field
 
 -- ---- the records of a change
 
+-- one record, where the other has no fields
+one_record : (flags : List ℕ) (op : Op) (pair : List Field → Fields)
+    → ((text : List ℕ) (row : List Field) → RecordText (map row_rule flags) text row
+    → SpellsRecords flags op text (pair row))
+    → ((text : List ℕ) (fields : Fields) → SpellsRecords flags op text fields → (row : List Field)
+    × RecordText (map row_rule flags) text row × (fields ≡ pair row))
+    → ((front : List ℕ) (place : BytePlace) → InRecord (map row_rule flags) front place
+    → InRecords flags op front place)
+    → ((front : List ℕ) (place : BytePlace) → InRecords flags op front place
+    → InRecord (map row_rule flags) front place)
+    → ExactReader (λ bytes. record_at (map row_rule flags) bytes >>= λ row. done (pair row.0, row.1))
+    (SpellsRecords flags op) (InRecords flags op)
+one_record flags op pair to from place_to place_from =
+    let rules = map row_rule flags in
+    renamed (λ bytes. record_at rules bytes >>= λ row. done (pair row.0, row.1))
+    (λ text fields. (row : List Field) × RecordText rules text row × (fields ≡ pair row)) (SpellsRecords flags op)
+    (InRecord rules) (InRecords flags op) (record {
+      text_to = λ text fields h. subst (λ fs. SpellsRecords flags op text fs) (sym h.2) (to text h.0 h.1);
+      text_from = from;
+      place_to = place_to;
+      place_from = place_from;
+    }) (mapped_exact pair (record_at rules) (RecordText rules) (InRecord rules) (record_exact rules))
+
 insert_exact : (flags : List ℕ) → ExactReader (records_at flags Insert) (SpellsRecords flags Insert)
     (InRecords flags Insert)
 unfolding records_at
-insert_exact flags =
-    let rules = map row_rule flags in
-    let RowText : List ℕ → Fields → Type 0 = λ text fields. (row : List Field) × RecordText rules text row
-    × (fields ≡ ([], row)) in
-    renamed (λ bytes. record_at rules bytes >>= λ row. done (([], row.0), row.1)) RowText (SpellsRecords flags Insert)
-    (InRecord rules) (InRecords flags Insert) (record {
-      text_to = λ text fields h. subst (λ fs. SpellsRecords flags Insert text fs) (sym h.2)
-          (record { old = []; new = text; parts = refl; is_old = refl; is_new = h.1.0; valid = (refl, h.1.1) });
-      text_from = λ text fields h.
-          let none : h.old ≡ [] = subst (λ b. SpellsEach SpellsField h.old b) h.valid.0 h.is_old in
-          let whole : text ≡ h.new = h.parts ∙ ap (λ w. w ++ h.new) none in
-          let pair : Fields = (fields.0, fields.1) in (
-            fields.1,
-            (subst (λ w. SpellsEach SpellsField w fields.1) (sym whole) h.is_new, h.valid.1),
-            ap (λ b. (b, fields.1)) h.valid.0,
-          );
-      place_to = λ front place h. h;
-      place_from = λ front place h. h;
-    }) (mapped_exact (λ row. ([], row)) (record_at rules) (RecordText rules) (InRecord rules) (record_exact rules))
+insert_exact flags = one_record flags Insert (λ row. ([], row))
+    (λ text row h. record { old = []; new = text; parts = refl; is_old = refl; is_new = h.0; valid = (refl, h.1) })
+    (λ text fields h.
+    let none : h.old ≡ [] = subst (λ b. SpellsEach SpellsField h.old b) h.valid.0 h.is_old in
+    let whole : text ≡ h.new = h.parts ∙ ap (λ w. w ++ h.new) none in (
+      fields.1,
+      (subst (λ w. SpellsEach SpellsField w fields.1) (sym whole) h.is_new, h.valid.1),
+      ap (λ b. (b, fields.1)) h.valid.0,
+    )) (λ front place h. h) (λ front place h. h)
 
 delete_exact : (flags : List ℕ) → ExactReader (records_at flags Delete) (SpellsRecords flags Delete)
     (InRecords flags Delete)
 unfolding records_at
-delete_exact flags =
-    let rules = map row_rule flags in
-    let RowText : List ℕ → Fields → Type 0 = λ text fields. (row : List Field) × RecordText rules text row
-    × (fields ≡ (row, [])) in
-    renamed (λ bytes. record_at rules bytes >>= λ row. done ((row.0, []), row.1)) RowText (SpellsRecords flags Delete)
-    (InRecord rules) (InRecords flags Delete) (record {
-      text_to = λ text fields h. subst (λ fs. SpellsRecords flags Delete text fs) (sym h.2)
-          (record {
-            old = text;
-            new = [];
-            parts = sym (append-nil text);
-            is_old = h.1.0;
-            is_new = refl;
-            valid = (h.1.1, refl);
-          });
-      text_from = λ text fields h.
-          let none : h.new ≡ [] = subst (λ b. SpellsEach SpellsField h.new b) h.valid.1 h.is_new in
-          let whole : text ≡ h.old = h.parts ∙ ap (λ w. h.old ++ w) none ∙ append-nil h.old in (
-            fields.0,
-            (subst (λ w. SpellsEach SpellsField w fields.0) (sym whole) h.is_old, h.valid.0),
-            ap (λ a. (fields.0, a)) h.valid.1,
-          );
-      place_to = λ front place h. h;
-      place_from = λ front place h. h;
-    }) (mapped_exact (λ row. (row, [])) (record_at rules) (RecordText rules) (InRecord rules) (record_exact rules))
+delete_exact flags = one_record flags Delete (λ row. (row, []))
+    (λ text row h.
+    let whole = sym (append-nil text) in
+    record { old = text; new = []; parts = whole; is_old = h.0; is_new = refl; valid = (h.1, refl) })
+    (λ text fields h.
+    let none : h.new ≡ [] = subst (λ b. SpellsEach SpellsField h.new b) h.valid.1 h.is_new in
+    let whole : text ≡ h.old = h.parts ∙ ap (λ w. h.old ++ w) none ∙ append-nil h.old in (
+      fields.0,
+      (subst (λ w. SpellsEach SpellsField w fields.0) (sym whole) h.is_old, h.valid.0),
+      ap (λ a. (fields.0, a)) h.valid.1,
+    )) (λ front place h. h) (λ front place h. h)
 
 abbrev NewText : List ℕ → List Field → List ℕ → Fields → Type 0
 NewText flags before text fields = (new : List Field) × RecordText (new_rules flags before) text new
@@ -328,18 +328,8 @@ operated_stops flags (Some op) byte rest left kind fits is no_header e =
 operated_stops flags None byte rest left kind fits is no_header e =
     let len : left ≡ suc (length rest) = cc e in
     let same : exact_changes_begins_none byte ≡ kind = cc e in
-    record {
-      front = [];
-      byte = byte;
-      back = rest;
-      place = Between;
-      parts = refl;
-      left_is = len;
-      alive = some_change flags;
-      stands = inl (refl, refl);
-      is_wrong = wrong_between byte is no_header
-          ∙ ap (λ k. Some k) same;
-    }
+    stopped_here [] byte rest left kind Between len (some_change flags) (inl (refl, refl))
+    (wrong_between byte is no_header ∙ ap (λ k. Some k) same)
 
 pub exact_change_stops : (flags bytes : List ℕ) (left : ℕ) (kind : FaultKind) → ends_section bytes ≡ false
     → AreBytes bytes → change_at flags bytes ≡ Err (Bad left kind)

@@ -15,7 +15,8 @@ use Rattle.cs_parse.specs.Reading.{◌>>=◌, typed_at, unless_refused, field_at
 use Rattle.cs_parse.proofs.reading.Steps.{Takes, done, ok_is, unless_ok}
 use Rattle.cs_parse.proofs.reading.FieldLaws.{type_byte, not_refused, follows, typed_again}
 use Rattle.cs_parse.proofs.refusing.Exact.{Completes, ExactStopped, ExactReader, Nowhere, ExactNothing, SeqText}
-use Rattle.cs_parse.proofs.refusing.Exact.{SeqPlace, seq, seq_exact, pure_exact, mapped_exact, renamed, same_reader}
+use Rattle.cs_parse.proofs.refusing.Exact.{SeqPlace, seq, stopped_here, seq_exact, pure_exact, mapped_exact}
+use Rattle.cs_parse.proofs.refusing.Exact.{renamed, same_reader}
 use Rattle.cs_parse.proofs.refusing.ExactValues.{TypedText, TypedPlace, byte_is, typed_exact}
 
 -- ---- a type byte
@@ -59,17 +60,7 @@ type_stops rule (byte ∷ rest) left kind e =
     let is = r.2 in
     let len : left ≡ suc (length rest) = cc in
     let same : r.0 ≡ kind = cc in
-    record {
-      front = [];
-      byte = byte;
-      back = rest;
-      place = AtType rule;
-      parts = refl;
-      left_is = len;
-      alive = some_type rule;
-      stands = (refl, refl);
-      is_wrong = r.1 ∙ ap (λ k. Some k) same;
-    }
+    stopped_here [] byte rest left kind (AtType rule) len (some_type rule) (refl, refl) (r.1 ∙ ap (λ k. Some k) same)
 
 type_completes : (rule : Rule) (bytes : List ℕ) → type_at rule bytes ≡ Err Short → Completes (TypeText rule) bytes
 unfolding type_at

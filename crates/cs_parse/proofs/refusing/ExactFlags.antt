@@ -16,7 +16,7 @@ use Rattle.cs_parse.specs.declared.stop.ParseRefusal.TheVariants.{Short, Bad}
 use Rattle.cs_parse.specs.Reading.{refuse, flags_at}
 use Rattle.cs_parse.proofs.reading.Steps.{steps_chosen}
 use Rattle.cs_parse.proofs.reading.HeaderLaws.{any_key, flags_take, flags_again}
-use Rattle.cs_parse.proofs.refusing.Exact.{Completes, ExactStopped, ExactReader}
+use Rattle.cs_parse.proofs.refusing.Exact.{Completes, ExactStopped, ExactReader, stopped_here}
 
 abbrev pub FlagsText : ℕ → List ℕ → List ℕ → Type 0
 FlagsText count text flags = (text ≡ flags) × (length flags ≡ count) × (any_key flags ≡ true)
@@ -84,17 +84,8 @@ flags_stop front byte back left kind e =
           let nothing : byte ≡ 0 = omega (arith, zeroed) in
           let len : left ≡ suc (length back) = cc h.1 in
           let same : NoKey ≡ kind = cc h.1 in
-          record {
-            front = front;
-            byte = byte;
-            back = back;
-            place = LastKey;
-            parts = refl;
-            left_is = len;
-            alive = flags_go_on (suc (length front)) front (omega arith);
-            stands = (refl, none.0, refl);
-            is_wrong = ap (wrong LastKey) nothing ∙ ap (λ k. Some k) same;
-          }
+          stopped_here front byte back left kind LastKey len (flags_go_on (suc (length front)) front (omega arith))
+          (refl, none.0, refl) (ap (wrong LastKey) nothing ∙ ap (λ k. Some k) same)
     ]
 
 split_at : (n : ℕ) (bytes : List ℕ) → n < length bytes → bytes ≡ take n bytes ++ get_or bytes n 0 ∷ drop (n + 1) bytes

@@ -6,16 +6,22 @@ use Rattle.cs_model.specs.declared.shape.Shape.{Shape}
 use Rattle.cs_model.specs.Changeset.{IsShape}
 use Rattle.cs_model.specs.Text.{SpellsHeader}
 use Rattle.cs_model.specs.Varint.{IsVarint}
-use Rattle.cs_parse.specs.Place.{BytePlace}
+use Rattle.cs_parse.specs.Place.{BytePlace, InColumns}
 use Rattle.cs_parse.specs.Stands.{InHeader}
 use Rattle.cs_parse.specs.declared.stop.ParseRefusal.{ParseRefusal}
 use Rattle.cs_parse.specs.Reading.{◌>>=◌, columns_at, flags_at, name_at, header_at}
 use Rattle.cs_parse.proofs.reading.Steps.{done}
-use Rattle.cs_parse.proofs.reading.HeaderLaws.{any_key, HeaderTextOf}
+use Rattle.cs_parse.proofs.reading.HeaderLaws.{any_key, shape_of_parts, HeaderTextOf}
 use Rattle.cs_parse.proofs.refusing.Exact.{ExactReader, SeqText, SeqPlace, seq, seq_exact, mapped_exact, renamed}
-use Rattle.cs_parse.proofs.refusing.ExactNumbers.{ColumnsText, InColumnDigits, columns_exact}
+use Rattle.cs_parse.proofs.refusing.ExactNumbers.{NumberText, Digits, columns_exact}
 use Rattle.cs_parse.proofs.refusing.ExactFlags.{FlagsText, FlagsPlace, flags_exact}
 use Rattle.cs_parse.proofs.refusing.ExactNames.{NameText, NamePlace, name_exact}
+
+abbrev ColumnsText : List ℕ → ℕ → Type 0
+ColumnsText = NumberText 1 2000 8 0
+
+abbrev InColumnDigits : List ℕ → BytePlace → Type 0
+InColumnDigits = Digits 2000 InColumns 8 0
 
 abbrev pub HeaderSpelled : List ℕ → Shape → Type 0
 HeaderSpelled text shape = HeaderTextOf text shape × IsShape shape
@@ -58,16 +64,8 @@ header_to text shape (n, count, back, e, c, (flags, keys, ending, e2, f, (name, 
     let spelled : SpellsHeader (84 ∷ text) (shape_of flags name) =
     record { count = count; parts = ap (λ w. 84 ∷ w) whole; is_count = subst (λ k. IsVarint count k) (sym f.1) c.0 }
     in
-    let valid : IsShape (shape_of flags name) =
-    record {
-      columns = omega (arith, f.1, c.1);
-      not_more_columns = omega (arith, f.1, c.2);
-      key = f.2;
-      named = t.1;
-      not_longer = t.2;
-      no_zero = t.3;
-    } in
-    subst (λ s. HeaderSpelled text s) (sym is) (spelled, valid)
+    subst (λ s. HeaderSpelled text s) (sym is)
+    (spelled, shape_of_parts n flags name f.1 c.1 c.2 f.2 t.1 t.2 t.3)
 
 header_from : (text : List ℕ) (shape : Shape) → HeaderSpelled text shape → SeqText ColumnsText FlagsAndName text shape
 header_from text shape h =

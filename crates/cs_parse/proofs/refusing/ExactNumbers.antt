@@ -2,7 +2,7 @@
 use Rattle.std.proofs.Common.{◌≡◌, ℕ, zero, suc, ◌+◌, ◌-◌, ◌*◌, ◌<◌, ◌≤◌, inl, inr, true, false, cond, ltb, List, []}
 use Rattle.std.proofs.Common.{◌∷◌, ◌++◌, length, Some, None, Ok, Err, refl, sym, ap, subst, ◌∙◌, arith}
 use Rattle.std.proofs.lemmas.Bool.{lt-ltb, le-ltb, ltb-true, ltb-false, ne_eqb, and_from}
-use Rattle.cs_model.specs.Varint.{EndsVarint, IsVarint}
+use Rattle.cs_model.specs.Varint.{EndsVarint}
 use Rattle.cs_parse.specs.declared.fault.FaultKind.{FaultKind}
 use Rattle.cs_parse.specs.declared.fault.FaultKind.TheVariants.{Columns, ValueTooLong}
 use Rattle.cs_parse.specs.Place.{BytePlace, InColumns, InLength, factor, outside, leaves_none, wrong}
@@ -13,7 +13,7 @@ use Rattle.cs_parse.specs.Reading.{number_within, number_at, columns_at, length_
 use Rattle.cs_parse.proofs.reading.Steps.{steps_chosen}
 use Rattle.cs_parse.proofs.reading.Numbers.{goes, number_short, number_more, number_last, number_ends, number_goes}
 use Rattle.cs_parse.proofs.reading.NumberLaws.{number_takes, number_again}
-use Rattle.cs_parse.proofs.refusing.Exact.{Completes, ExactStopped, stopped_behind, ExactReader}
+use Rattle.cs_parse.proofs.refusing.Exact.{Completes, ExactStopped, stopped_here, stopped_behind, ExactReader}
 
 -- ---- tests
 
@@ -56,10 +56,10 @@ within_whole least most kind n rest e =
 
 -- ---- a number within limits
 
-abbrev NumberText : ℕ → ℕ → ℕ → ℕ → List ℕ → ℕ → Type 0
+abbrev pub NumberText : ℕ → ℕ → ℕ → ℕ → List ℕ → ℕ → Type 0
 NumberText least most left high text n = EndsVarint left high text n × (least ≤ n) × (n ≤ most)
 
-abbrev Digits : ℕ → (ℕ → ℕ → BytePlace) → ℕ → ℕ → List ℕ → BytePlace → Type 0
+abbrev pub Digits : ℕ → (ℕ → ℕ → BytePlace) → ℕ → ℕ → List ℕ → BytePlace → Type 0
 Digits most P left high front place = (l : ℕ) × (h : ℕ) × Unfinished most left high front l h × (place ≡ P l h)
 
 number_begins : (least most left high : ℕ) → least ≤ 1 → 1 ≤ most → factor left * high ≤ most
@@ -106,18 +106,8 @@ module _ (least most : ℕ) (kind : FaultKind) (P : ℕ → ℕ → BytePlace) (
       → leaves_none least most left high byte ≡ true → l ≡ suc (length rest) → kind ≡ k
       → ExactStopped (NumberText least most left high) (Digits most P left high) (byte ∷ rest) l k
   here left high byte l rest k room none len same =
-      record {
-        front = [];
-        byte = byte;
-        back = rest;
-        place = P left high;
-        parts = refl;
-        left_is = len;
-        alive = number_begins least most left high low top room;
-        stands = (left, high, (refl, refl), refl);
-        is_wrong =
-            wrong_is left high byte k none same;
-      }
+      stopped_here [] byte rest l k (P left high) len (number_begins least most left high low top room)
+      (left, high, (refl, refl), refl) (wrong_is left high byte k none same)
 
   number_stops : (left high : ℕ) (bytes : List ℕ) (l : ℕ) (k : FaultKind) → factor left * high ≤ most
       → number_at least most kind left high bytes ≡ Err (Bad l k)
@@ -238,22 +228,11 @@ module _ (least most : ℕ) (kind : FaultKind) (P : ℕ → ℕ → BytePlace) (
         completes = λ bytes fits e. number_completes 8 0 bytes room e;
       }
 
-abbrev pub ColumnsText : List ℕ → ℕ → Type 0
-ColumnsText text n = IsVarint text n × (1 ≤ n) × (n ≤ 2000)
-
-abbrev pub InColumnDigits : List ℕ → BytePlace → Type 0
-InColumnDigits front place = (l : ℕ) × (h : ℕ) × Unfinished 2000 8 0 front l h × (place ≡ InColumns l h)
-
-pub columns_exact : ExactReader columns_at ColumnsText InColumnDigits
+-- the number of columns, and the length of a value
+pub columns_exact : ExactReader columns_at (NumberText 1 2000 8 0) (Digits 2000 InColumns 8 0)
 unfolding columns_at
 columns_exact = number_exact 1 2000 Columns InColumns (omega arith) (omega arith) (λ left high byte. refl)
 
-abbrev pub LengthText : List ℕ → ℕ → Type 0
-LengthText text n = IsVarint text n × (0 ≤ n) × (n ≤ 16777216)
-
-abbrev pub InLengthDigits : List ℕ → BytePlace → Type 0
-InLengthDigits front place = (l : ℕ) × (h : ℕ) × Unfinished 16777216 8 0 front l h × (place ≡ InLength l h)
-
-pub length_exact : ExactReader length_at LengthText InLengthDigits
+pub length_exact : ExactReader length_at (NumberText 0 16777216 8 0) (Digits 16777216 InLength 8 0)
 unfolding length_at
 length_exact = number_exact 0 16777216 ValueTooLong InLength (omega arith) (omega arith) (λ left high byte. refl)

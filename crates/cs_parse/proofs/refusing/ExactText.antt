@@ -20,7 +20,7 @@ use Rattle.cs_parse.proofs.reading.Steps.{steps_chosen}
 use Rattle.cs_parse.proofs.reading.Loops.{loops_rest_of, many_more, many_done}
 use Rattle.cs_parse.proofs.reading.TextLaws.{CanFollow, changes_behind, begins_none, section_begins, sections_take}
 use Rattle.cs_parse.proofs.reading.TextLaws.{sections_again}
-use Rattle.cs_parse.proofs.refusing.Exact.{Completes, ExactStopped, stopped_behind, are_bytes-append}
+use Rattle.cs_parse.proofs.refusing.Exact.{Completes, ExactStopped, stopped_here, stopped_behind, are_bytes-append}
 use Rattle.cs_parse.proofs.refusing.ExactMany.{ManyText, ManyPlace, many_stops, many_places, many_completes}
 use Rattle.cs_parse.proofs.refusing.ExactSections.{section_exact}
 
@@ -113,17 +113,8 @@ text_stops (byte ∷ rest) left kind fits e =
           sym (refused_text byte rest other) ∙ e in
           let len : left ≡ suc (length rest) = cc known in
           let same : begins_none byte ≡ kind = cc known in
-          record {
-            front = [];
-            byte = byte;
-            back = rest;
-            place = Start;
-            parts = refl;
-            left_is = len;
-            alive = no_sections;
-            stands = inl (refl, refl);
-            is_wrong = wrong_first byte other ∙ ap (λ k. Some k) same;
-          }
+          stopped_here [] byte rest left kind Start len no_sections (inl (refl, refl))
+          (wrong_first byte other ∙ ap (λ k. Some k) same)
     ]
 
 behind_completes : (text : List ℕ) → CanFollow text → AreBytes text → sections_at text ≡ Err Short

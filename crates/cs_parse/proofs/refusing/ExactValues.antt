@@ -14,7 +14,7 @@ use Rattle.cs_model.specs.Changeset.{IsField}
 use Rattle.cs_model.specs.Text.{SpellsBytes, SpellsField}
 use Rattle.cs_model.specs.Varint.{IsVarint}
 use Rattle.cs_parse.specs.declared.fault.FaultKind.TheVariants.{BadType, Real}
-use Rattle.cs_parse.specs.Place.{BytePlace, rule_refusal, type_refusal}
+use Rattle.cs_parse.specs.Place.{BytePlace, InLength, rule_refusal, type_refusal}
 use Rattle.cs_parse.proofs.reading.Steps.{steps_are_bytes, bytes_from, bytes_to}
 use Rattle.cs_parse.specs.declared.stop.ParseRefusal.{ParseRefusal}
 use Rattle.cs_parse.specs.declared.stop.ParseRefusal.TheVariants.{Short, Bad}
@@ -26,7 +26,7 @@ use Rattle.cs_parse.proofs.reading.FieldLaws.{type_byte}
 use Rattle.cs_parse.proofs.refusing.Exact.{Completes, ExactStopped, ExactReader, Nowhere, ExactNothing, SeqText}
 use Rattle.cs_parse.proofs.refusing.Exact.{SeqPlace, seq, are_bytes-append, seq_exact, pure_exact, mapped_exact}
 use Rattle.cs_parse.proofs.refusing.Exact.{renamed}
-use Rattle.cs_parse.proofs.refusing.ExactNumbers.{LengthText, InLengthDigits, length_exact}
+use Rattle.cs_parse.proofs.refusing.ExactNumbers.{NumberText, Digits, length_exact}
 
 -- ---- bytes
 
@@ -89,6 +89,12 @@ taken_exact n = record {
         | inr h ↦ absurd (cc h.1)
       ];
 }
+
+abbrev LengthText : List ℕ → ℕ → Type 0
+LengthText = NumberText 0 16777216 8 0
+
+abbrev pub InLengthDigits : List ℕ → BytePlace → Type 0
+InLengthDigits = Digits 16777216 InLength 8 0
 
 abbrev CountedText : List ℕ → List ℕ → Type 0
 CountedText text bytes = SpellsBytes text bytes × (length bytes ≤ 16777216)
@@ -262,27 +268,28 @@ number_exact = renamed (λ bytes. integer_at bytes >>= λ x. done (Is (Integer x
       place_from = λ front place h. absurd (no_length 1 front place (λ e. absurd cc) (λ e. absurd cc) h);
     }) (mapped_exact (λ n. Is (Integer n)) integer_at IntegerText Nowhere integer_exact)
 
+-- a length and so many bytes behind a type byte
+counted_kind : (kind : ℕ) (made : List ℕ → Field) → (kind ≡ 3) ⊎ (kind ≡ 4)
+    → ((text bytes : List ℕ) → CountedText text bytes → TypedText kind text (made bytes))
+    → ((text : List ℕ) (field : Field) → TypedText kind text field → (bytes : List ℕ) × CountedText text bytes
+    × (field ≡ made bytes))
+    → ExactReader (λ bytes. counted_at bytes >>= λ x. done (made x.0, x.1)) (TypedText kind) (TypedPlace kind)
+counted_kind kind made is to from = renamed (λ bytes. counted_at bytes >>= λ x. done (made x.0, x.1))
+    (λ text field. (bytes : List ℕ) × CountedText text bytes × (field ≡ made bytes)) (TypedText kind) InLengthDigits
+    (TypedPlace kind) (record {
+      text_to = λ text field h. subst (λ f. TypedText kind text f) (sym h.2) (to text h.0 h.1);
+      text_from = from;
+      place_to = λ front place h. (is, h);
+      place_from = λ front place h. h.1;
+    }) (mapped_exact made counted_at CountedText InLengthDigits counted_exact)
+
 text_exact : ExactReader (typed_at 3) (TypedText 3) (TypedPlace 3)
 unfolding typed_at
-text_exact = renamed (λ bytes. counted_at bytes >>= λ x. done (Is (Text x.0), x.1))
-    (λ text field. (bytes : List ℕ) × CountedText text bytes × (field ≡ Is (Text bytes))) (TypedText 3) InLengthDigits
-    (TypedPlace 3) (record {
-      text_to = λ text field h. subst (λ f. TypedText 3 text f) (sym h.2) ((text, refl, h.1.0), h.1.1);
-      text_from = text_is;
-      place_to = λ front place h. (inl refl, h);
-      place_from = λ front place h. h.1;
-    }) (mapped_exact (λ bytes. Is (Text bytes)) counted_at CountedText InLengthDigits counted_exact)
+text_exact = counted_kind 3 (λ bytes. Is (Text bytes)) (inl refl) (λ text bytes h. ((text, refl, h.0), h.1)) text_is
 
 blob_exact : ExactReader (typed_at 4) (TypedText 4) (TypedPlace 4)
 unfolding typed_at
-blob_exact = renamed (λ bytes. counted_at bytes >>= λ x. done (Is (Blob x.0), x.1))
-    (λ text field. (bytes : List ℕ) × CountedText text bytes × (field ≡ Is (Blob bytes))) (TypedText 4) InLengthDigits
-    (TypedPlace 4) (record {
-      text_to = λ text field h. subst (λ f. TypedText 4 text f) (sym h.2) ((text, refl, h.1.0), h.1.1);
-      text_from = blob_is;
-      place_to = λ front place h. (inr refl, h);
-      place_from = λ front place h. h.1;
-    }) (mapped_exact (λ bytes. Is (Blob bytes)) counted_at CountedText InLengthDigits counted_exact)
+blob_exact = counted_kind 4 (λ bytes. Is (Blob bytes)) (inr refl) (λ text bytes h. ((text, refl, h.0), h.1)) blob_is
 
 large : (byte : ℕ) → ltb 5 (suc (suc (suc (suc (suc (suc byte)))))) ≡ true
 large byte = lt-ltb 5 (suc (suc (suc (suc (suc (suc byte)))))) (omega arith)

@@ -18,7 +18,6 @@ use Rattle.cs_model.specs.FieldBytes.{field_bytes}
 use Rattle.cs_model.specs.Text.{SpellsBytes, SpellsField, SpellsEach, SpellsChange, SpellsHeader, SpellsSection, Spells}
 use Rattle.cs_model.specs.Changeset.{all_changes}
 use Rattle.cs_write.specs.Canon.{Group, by_shape, joined_section, has_changes, canon}
-use Rattle.cs_model.specs.Packed.{packed}
 use Rattle.cs_model.specs.PackedChanges.{change_bytes, changes_bytes}
 use Rattle.cs_write.specs.Text.{header_text, section_text, sections_text, text_of}
 use Rattle.cs_write.specs.Groups.{added}
@@ -96,14 +95,7 @@ change_least shortest text change are h =
     (no_longer_front_bytes h.old h.new both) h.is_old in
     let new = each SpellsField field_bytes (field_least shortest) h.new change.after (back_bytes h.old h.new both)
     h.is_new in
-    omega (
-      arith,
-      old,
-      new,
-      ap length h.parts,
-      length-append h.old h.new,
-      length-append (packed change.before) (packed change.after),
-    )
+    omega (arith, old, new, ap length h.parts, length-append {A = ℕ})
 
 header_least : AreShortest → (text : List ℕ) (shape : Shape) → NoLongerAreBytes text → SpellsHeader text shape
     → length (header_text shape) ≤ length text

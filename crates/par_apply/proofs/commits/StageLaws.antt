@@ -3,6 +3,7 @@ use Rattle.std.proofs.Common.{◌≡◌, ◌∙◌, ℕ, zero, suc, Bool, true, 
 use Rattle.std.proofs.Common.{List, [], ◌∷◌, ◌++◌, Option, Some, None}
 use Rattle.std.proofs.Common.{is_some, slice_get, take, refl, ap, sym, subst}
 use Rattle.std.proofs.lemmas.Bool.{false≢true}
+use Rattle.std.proofs.lemmas.List.{append-nil}
 use Rattle.std.specs.FinMap as map
 use Rattle.std.specs.FinSet as set
 use Rattle.std.specs.List.{AllByRecursion}
@@ -166,21 +167,18 @@ was_false : (b : Bool) → not b ≡ false → b ≡ true
 was_false true h = refl
 was_false false h = absurd (false≢true (sym h))
 
-pub held_noted : (old new : HeldState) (changes : RowChanges) (made longer : List ℕ) (i : ℕ) (own key : RowKey)
-    (row : Option (List Value)) (is_new : Bool) → slice_get changes i ≡ Some (key, row) → longer ≡ made ++ i ∷ []
-    → new ≡ held_also old own → own ≡ key → is_new ≡ not (is_key_placed old own) → is_new ≡ true
-    → without_places new changes longer ≡ without_places old changes made
-held_noted old new changes made longer i own key row is_new at more is same says new_key =
+-- taking the place out again, if it is new, leaves what was there
+pub held_back : (old new : HeldState) (changes : RowChanges) (made longer : List ℕ) (i : ℕ) (own key : RowKey)
+    (row : Option (List Value)) (is_new : Bool) → slice_get changes i ≡ Some (key, row)
+    → longer ≡ made ++ cond is_new (i ∷ []) [] → new ≡ held_also old own → own ≡ key
+    → is_new ≡ not (is_key_placed old own) → without_places new changes longer ≡ without_places old changes made
+held_back old new changes made longer i own key row true at more is same says =
     ap (λ (t : HeldState). without_places t changes longer) is
     ∙ noted_back old changes made longer i own row
-    (at ∙ ap (λ (k : RowKey). Some (k, row)) (sym same)) more (was_true (is_key_placed old own) (sym says ∙ new_key))
-
-pub held_unnoted : (old new : HeldState) (changes : RowChanges) (made same_made : List ℕ) (own : RowKey) (is_new : Bool)
-    → same_made ≡ made → new ≡ held_also old own → is_new ≡ not (is_key_placed old own) → is_new ≡ false
-    → without_places new changes same_made ≡ without_places old changes made
-held_unnoted old new changes made same_made own is_new kept is says not_new =
-    (λ i. without_places (is i) changes (kept i))
-    ∙ placed_back old changes made own (was_false (is_key_placed old own) (sym says ∙ not_new))
+    (at ∙ ap (λ (k : RowKey). Some (k, row)) (sym same)) more (was_true (is_key_placed old own) (sym says))
+held_back old new changes made longer i own key row false at more is same says =
+    (λ k. without_places (is k) changes ((more ∙ append-nil made) k))
+    ∙ placed_back old changes made own (was_false (is_key_placed old own) (sym says))
 
 -- ---- all of them
 

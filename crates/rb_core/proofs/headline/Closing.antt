@@ -7,7 +7,7 @@ use Rattle.cs_apply.specs.State as tables
 use Rattle.rb_desk.proofs.pictures.PictureLaws.{get_set, get_set_other}
 use Rattle.rb_sequence.specs.Entry.{Entry}
 use Rattle.rb_core.specs.World.{Subscriber, World}
-use Rattle.rb_core.specs.Moves.{Leads, StaysClosed}
+use Rattle.rb_core.specs.Moves.{Leads, StaysClosed, with_subscriber}
 use Rattle.rb_core.proofs.headline.Moving.{get_push, MovingKeeps, crash_leaves, kept_through}
 
 -- ---- the sequence
@@ -59,21 +59,21 @@ abbrev Left : ℕ → List Entry → tables.TableState → World → Type 0
 Left s accepted rows world = (q : Subscriber) × (slice_get world.subscribers s ≡ Some q) × HasLeft accepted rows q
 
 -- one subscription becomes another, and stays closed where it is closed
-becomes : (s : ℕ) (accepted : List Entry) (rows : tables.TableState) (subs : List Subscriber) (at : ℕ)
-    (q r : Subscriber) → slice_get subs at ≡ Some q → (HasLeft accepted rows q → HasLeft accepted rows r)
-    → (x : Subscriber) → slice_get subs s ≡ Some x → HasLeft accepted rows x → (y : Subscriber)
-    × (slice_get (slice_set subs at r) s ≡ Some y) × HasLeft accepted rows y
-becomes s accepted rows subs at q r found stays x here left =
-    elim (eqb_tells at s) as (λ w. (y : Subscriber) × (slice_get (slice_set subs at r) s ≡ Some y)
-    × HasLeft accepted rows y) [
+becomes : (s : ℕ) (accepted : List Entry) (rows : tables.TableState) (old : World) (at : ℕ) (q r : Subscriber)
+    → slice_get old.subscribers at ≡ Some q → (HasLeft accepted rows q → HasLeft accepted rows r)
+    → Left s accepted rows old → Left s accepted rows (with_subscriber old at r)
+becomes s accepted rows old at q r found stays h =
+    elim (eqb_tells at s) as (λ w. Left s accepted rows (with_subscriber old at r)) [
       | inl is ↦
-          let found_here : slice_get subs s ≡ Some q = subst (λ n. slice_get subs n ≡ Some q) is.1 found in
-          let same : x ≡ q = cc (sym here ∙ found_here) in (
+          let found_here : slice_get old.subscribers s ≡ Some q =
+          subst (λ n. slice_get old.subscribers n ≡ Some q) is.1 found in
+          let same : h.0 ≡ q = cc (sym h.1 ∙ found_here) in (
             r,
-            subst (λ n. slice_get (slice_set subs at r) n ≡ Some r) is.1 (get_set subs at q r found),
-            stays (subst (HasLeft accepted rows) same left),
+            subst (λ n. slice_get (slice_set old.subscribers at r) n ≡ Some r) is.1
+                (get_set old.subscribers at q r found),
+            stays (subst (HasLeft accepted rows) same h.2),
           )
-      | inr other ↦ (x, get_set_other subs at s r (λ e. other.1 (sym e)) ∙ here, left)
+      | inr other ↦ (h.0, get_set_other old.subscribers at s r (λ e. other.1 (sym e)) ∙ h.1, h.2)
     ]
 
 left_kept : (s : ℕ) (accepted : List Entry) (rows : tables.TableState) → MovingKeeps (Left s accepted rows)
@@ -86,30 +86,24 @@ left_kept s accepted rows = record {
   closes = λ old new move h. subst (Left s accepted rows) (sym move.kept) h;
   subscribes = λ old new move h. subst (Left s accepted rows) (sym move.kept)
       (h.0, get_push old.subscribers _ h.0 s h.1, h.2);
-  delivers = λ old new move h.
-      subst (Left s accepted rows) (sym move.kept)
-      (becomes s accepted rows old.subscribers move.s move.subscriber _ move.found (λ left. left) h.0 h.1 h.2);
-  accepts = λ old new move h.
-      subst (Left s accepted rows) (sym move.kept)
-      (becomes s accepted rows old.subscribers move.s move.subscriber _ move.found
-      (λ left. absurd (cc (sym left.closed ∙ move.accepts.not_closed))) h.0 h.1 h.2);
-  reconnects = λ old new move h.
-      subst (Left s accepted rows) (sym move.kept)
-      (becomes s accepted rows old.subscribers move.s move.subscriber _ move.found (λ left. left) h.0 h.1 h.2);
-  unsubscribes = λ old new move h.
-      subst (Left s accepted rows) (sym move.kept)
-      (becomes s accepted rows old.subscribers move.s move.subscriber _ move.found
-      (λ left. record { closed = refl; accepted_same = left.accepted_same; tables_same = left.tables_same }) h.0 h.1
-      h.2);
+  delivers = λ old new move h. subst (Left s accepted rows) (sym move.kept)
+      (becomes s accepted rows old move.s move.subscriber _ move.found (λ left. left) h);
+  accepts = λ old new move h. subst (Left s accepted rows) (sym move.kept)
+      (becomes s accepted rows old move.made.s move.made.subscriber _ move.made.found
+      (λ left. absurd (cc (sym left.closed ∙ move.made.accepts.not_closed))) h);
+  reconnects = λ old new move h. subst (Left s accepted rows) (sym move.kept)
+      (becomes s accepted rows old move.s move.subscriber _ move.found (λ left. left) h);
+  unsubscribes = λ old new move h. subst (Left s accepted rows) (sym move.kept)
+      (becomes s accepted rows old move.s move.subscriber _ move.found
+      (λ left. record { closed = refl; accepted_same = left.accepted_same; tables_same = left.tables_same }) h);
   withdraws = λ old new move h. subst (Left s accepted rows) (sym move.kept) h;
   crashes = λ old new move h.
       crash_leaves (Left s accepted rows) old new move
-      (becomes s accepted rows old.subscribers move.s move.subscriber _ move.found (λ left. left) h.0 h.1 h.2)
-      (becomes s accepted rows old.subscribers move.s move.subscriber _ move.found
-      (λ left. absurd (cc (sym left.closed ∙ move.would_accept.not_closed))) h.0 h.1 h.2);
-  resumes = λ old new move h.
-      subst (Left s accepted rows) (sym move.kept)
-      (becomes s accepted rows old.subscribers move.s move.subscriber _ move.found (λ left. left) h.0 h.1 h.2);
+      (becomes s accepted rows old move.made.s move.made.subscriber _ move.made.found (λ left. left) h)
+      (becomes s accepted rows old move.made.s move.made.subscriber _ move.made.found
+      (λ left. absurd (cc (sym left.closed ∙ move.made.accepts.not_closed))) h);
+  resumes = λ old new move h. subst (Left s accepted rows) (sym move.kept)
+      (becomes s accepted rows old move.s move.subscriber _ move.found (λ left. left) h);
 }
 
 pub nothing_accepted : (old : World) (mids : List World) (new : World) (s : ℕ) (q : Subscriber)

@@ -8,12 +8,10 @@ use Rattle.cs_model.proofs.CallerLemmas.{all_push}
 use Rattle.rb_desk.specs.declared.delivery.Delivery.{Delivery}
 use Rattle.rb_sequence.specs.Entry.{Entry}
 use Rattle.rb_subscriber.proofs.runs.RunLaws.{brought_after}
-use Rattle.rb_subscriber.specs.Accept.{brought}
 use Rattle.rb_subscriber.specs.Accept.{part}
 use Rattle.rb_subscriber.proofs.runs.RunLaws.{parts, part_stays}
-use Rattle.rb_core.specs.World.{Subscriber, World, world_begun, cursor}
-use Rattle.rb_core.specs.Moves.{with_subscriber}
-use Rattle.rb_core.specs.Moves.{Leads}
+use Rattle.rb_core.specs.World.{Subscriber, World, world_begun, cursor, subscriber_begun}
+use Rattle.rb_core.specs.Moves.{Acceptance, after_acceptance, with_subscriber, Leads}
 use Rattle.rb_core.proofs.headline.Moving.{all_set, all_get, all_moved_in, all_map, MovingKeeps, crash_leaves, kept_through}
 
 -- a delivery's numbers are placed
@@ -89,6 +87,14 @@ accepts_run sequence q delivery new h some placed start deliveries accepted =
       deliveries = subst (AllByRecursion (GaplessIsPlaced sequence)) (sym deliveries) h.deliveries;
     }
 
+acceptance_run : (old : World) (made : Acceptance old) → IsRun old.sequence made.subscriber
+    → IsRun old.sequence (after_acceptance old made)
+acceptance_run old made h =
+    let q = made.subscriber in
+    accepts_run old.sequence q made.delivery (after_acceptance old made) h made.accepts.some
+    (all_moved_in (GaplessIsPlaced old.sequence) q.deliveries made.delivery h.deliveries made.offered) refl refl
+    (ap (λ es. q.accepted ++ es) (brought_after old.sequence made.delivery (cursor q) made.accepts.next))
+
 -- ---- moves
 
 -- one subscription becomes another
@@ -111,18 +117,8 @@ runs_kept = record {
       (still_run old.sequence entry) runs);
   closes = λ old new move runs. subst AreRuns (sym move.kept) runs;
   subscribes = λ old new move runs.
-      let q : Subscriber = record {
-        start = move.start;
-        base = move.base;
-        accepted = [];
-        tables = move.base;
-        link = move.link;
-        closed = false;
-        fallen = false;
-        deliveries = [];
-      } in
       subst AreRuns (sym move.kept)
-      (all_push (IsRun old.sequence) old.subscribers q runs
+      (all_push (IsRun old.sequence) old.subscribers (subscriber_begun move.start move.link move.base) runs
       (record { run = refl; placed = omega (arith, move.placed); deliveries = tt }));
   delivers = λ old new move runs.
       let q = move.subscriber in
@@ -134,34 +130,20 @@ runs_kept = record {
         deliveries = all_push (GaplessIsPlaced old.sequence) q.deliveries move.delivery h.deliveries move.placed;
       }));
   accepts = λ old new move runs.
-      let q = move.subscriber in
-      let r : Subscriber = record q {
-        accepted = q.accepted ++ brought old.sequence move.delivery;
-        tables = move.end.tables;
-      } in
       subst AreRuns (sym move.kept)
-      (gapless_becomes old move.s q r runs move.found
-      (λ h. accepts_run old.sequence q move.delivery r h move.accepts.some
-      (all_moved_in (GaplessIsPlaced old.sequence) q.deliveries move.delivery h.deliveries move.offered) refl refl
-      (ap (λ es. q.accepted ++ es) (brought_after old.sequence move.delivery (cursor q) move.accepts.next))));
+      (gapless_becomes old move.made.s move.made.subscriber (after_acceptance old move.made) runs move.made.found
+      (acceptance_run old move.made));
   reconnects = λ old new move runs. subst AreRuns (sym move.kept)
       (gapless_becomes old move.s move.subscriber (record move.subscriber { link = move.link }) runs move.found (λ h. h));
   unsubscribes = λ old new move runs. subst AreRuns (sym move.kept)
       (gapless_becomes old move.s move.subscriber (record move.subscriber { closed = true }) runs move.found (λ h. h));
   withdraws = λ old new move runs. subst AreRuns (sym move.kept) runs;
   crashes = λ old new move runs.
-      let q = move.subscriber in
-      let both : Subscriber = record q {
-        accepted = q.accepted ++ brought old.sequence move.delivery;
-        tables = move.end.tables;
-        fallen = true;
-      } in
+      let q = move.made.subscriber in
+      let both : Subscriber = record (after_acceptance old move.made) { fallen = true } in
       crash_leaves AreRuns old new move
-      (gapless_becomes old move.s q (record q { fallen = true }) runs move.found (λ h. h))
-      (gapless_becomes old move.s q both runs move.found
-      (λ h. accepts_run old.sequence q move.delivery both h move.would_accept.some
-      (all_moved_in (GaplessIsPlaced old.sequence) q.deliveries move.delivery h.deliveries move.offered) refl refl
-      (ap (λ es. q.accepted ++ es) (brought_after old.sequence move.delivery (cursor q) move.would_accept.next))));
+      (gapless_becomes old move.made.s q (record q { fallen = true }) runs move.made.found (λ h. h))
+      (gapless_becomes old move.made.s q both runs move.made.found (acceptance_run old move.made));
   resumes = λ old new move runs.
       let q = move.subscriber in
       subst AreRuns (sym move.kept)

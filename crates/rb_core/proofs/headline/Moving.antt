@@ -5,8 +5,7 @@ use Rattle.std.specs.List.{AllByRecursion}
 use Rattle.rb_core.specs.World.{World}
 use Rattle.rb_core.specs.Moves.{IsIn, AddsPublisher, Streams, Sends, Pulls, Places, Closes, Subscribes, Delivers}
 use Rattle.rb_core.specs.Moves.{Accepts, Reconnects, Unsubscribes, Withdraws, Crashes, Resumes, Moves, Leads}
-use Rattle.rb_core.specs.Moves.{with_subscriber}
-use Rattle.rb_subscriber.specs.Accept.{brought}
+use Rattle.rb_core.specs.Moves.{after_acceptance, with_subscriber}
 
 -- ---- lists
 
@@ -109,13 +108,8 @@ kept_by P keeps old new move h = elim move as (λ w. P new) [
 
 -- what a fall leaves, where it leaves the accept out and where it has it
 pub crash_leaves : (P : World → Type 0) (old new : World) (move : Crashes old new)
-    → P (with_subscriber old move.s (record move.subscriber { fallen = true }))
-    → P (with_subscriber old move.s (record move.subscriber {
-      accepted = move.subscriber.accepted ++ brought old.sequence move.delivery;
-      tables = move.end.tables;
-      fallen = true;
-    }))
-    → P new
+    → P (with_subscriber old move.made.s (record move.made.subscriber { fallen = true }))
+    → P (with_subscriber old move.made.s (record (after_acceptance old move.made) { fallen = true })) → P new
 crash_leaves P old new move before after = elim move.kept as (λ w. P new) [
   | inl is ↦ subst P (sym is) before
   | inr is ↦ subst P (sym is) after

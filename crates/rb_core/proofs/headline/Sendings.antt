@@ -57,20 +57,32 @@ push_holds [] (suc p) new own none h = h
 push_holds (q ∷ senders) zero new own none h = h
 push_holds (q ∷ senders) (suc p) new own none h = push_holds senders p new own none h
 
-same_holds : (senders : List Sender) (p at : ℕ) (before after : Sender) (own : List Item) → slice_get senders at
-    ≡ Some before → after.sent ≡ before.sent → SendingsHolds (slice_get senders p) own
-    → SendingsHolds (slice_get (slice_set senders at after) p) own
-same_holds senders p at before after own found same h =
-    elim (eqb_tells at p) as (λ w. SendingsHolds (slice_get (slice_set senders at after) p) own) [
+-- one publisher becomes another: what holds at its own place, and what holds elsewhere as before
+set_holds : (senders : List Sender) (p at : ℕ) (before after : Sender) (own more : List Item)
+    → slice_get senders at ≡ Some before
+    → ((at == p) ≡ true → SendingsHolds (Some before) own → SendingsHolds (Some after) more)
+    → ((at == p) ≡ false → own ≡ more) → SendingsHolds (slice_get senders p) own
+    → SendingsHolds (slice_get (slice_set senders at after) p) more
+set_holds senders p at before after own more found here elsewhere h =
+    elim (eqb_tells at p) as (λ w. SendingsHolds (slice_get (slice_set senders at after) p) more) [
       | inl is ↦
-          let here : SendingsHolds (Some before) own =
+          let old : SendingsHolds (Some before) own =
           subst (λ o. SendingsHolds o own) (subst (λ n. slice_get senders n ≡ Some before) is.1 found) h in
           let new : slice_get (slice_set senders at after) p ≡ Some after =
           subst (λ n. slice_get (slice_set senders at after) n ≡ Some after) is.1
           (get_set senders at before after found) in
-          subst (λ o. SendingsHolds o own) (sym new) (here.0 ∙ sym same, subst (SendingsNumbered 1) (sym same) here.1)
-      | inr other ↦ subst (λ o. SendingsHolds o own) (sym (get_set_other senders at p after (λ e. other.1 (sym e)))) h
+          subst (λ o. SendingsHolds o more) (sym new) (here is.0 old)
+      | inr other ↦
+          subst (λ o. SendingsHolds o more) (sym (get_set_other senders at p after (λ e. other.1 (sym e))))
+          (subst (SendingsHolds (slice_get senders p)) (elsewhere other.0) h)
     ]
+
+same_holds : (senders : List Sender) (p at : ℕ) (before after : Sender) (own : List Item) → slice_get senders at
+    ≡ Some before → after.sent ≡ before.sent → SendingsHolds (slice_get senders p) own
+    → SendingsHolds (slice_get (slice_set senders at after) p) own
+same_holds senders p at before after own found same =
+    set_holds senders p at before after own own found
+    (λ is here. (here.0 ∙ sym same, subst (SendingsNumbered 1) (sym same) here.1)) (λ other. refl)
 
 -- ---- a sending
 
@@ -91,32 +103,19 @@ sends_holds : (senders : List Sender) (p at : ℕ) (before after : Sender) (item
     ≡ suc (length before.sent)
     → SendingsHolds (slice_get senders p) own
     → SendingsHolds (slice_get (slice_set senders at after) p) (own ++ cond (item.publisher == p) (item ∷ []) [])
-sends_holds senders p at before after item own found grown mine number h =
-    elim (eqb_tells at p) as (λ w. SendingsHolds (slice_get (slice_set senders at after) p)
-    (own ++ cond (item.publisher == p) (item ∷ []) [])) [
-      | inl is ↦
-          let here : SendingsHolds (Some before) own =
-          subst (λ o. SendingsHolds o own) (subst (λ n. slice_get senders n ≡ Some before) is.1 found) h in
-          let new : slice_get (slice_set senders at after) p ≡ Some after =
-          subst (λ n. slice_get (slice_set senders at after) n ≡ Some after) is.1
-          (get_set senders at before after found) in
-          let tested : (item.publisher == p) ≡ true = ap (λ n. n == p) mine ∙ is.0 in
-          let all : own ++ cond (item.publisher == p) (item ∷ []) [] ≡ after.sent =
-          ap (λ b. own ++ cond b (item ∷ []) []) tested ∙ ap (λ xs. xs ++ item ∷ []) here.0 ∙ sym grown in
-          subst (λ o. SendingsHolds o (own ++ cond (item.publisher == p) (item ∷ []) [])) (sym new) (
-            all,
-            subst (SendingsNumbered 1) (sym grown)
-                (sendings_numbered_push 1 before.sent item here.1 (omega (arith, number))),
-          )
-      | inr other ↦
-          let tested : (item.publisher == p) ≡ false = ap (λ n. n == p) mine ∙ other.0 in
-          let all : own ++ cond (item.publisher == p) (item ∷ []) [] ≡ own =
-          ap (λ b. own ++ cond b (item ∷ []) []) tested
-          ∙ append-nil own in
-          subst (λ o. SendingsHolds o (own ++ cond (item.publisher == p) (item ∷ []) []))
-          (sym (get_set_other senders at p after (λ e. other.1 (sym e))))
-          (subst (SendingsHolds (slice_get senders p)) (sym all) h)
-    ]
+sends_holds senders p at before after item own found grown mine number =
+    set_holds senders p at before after own (own ++ cond (item.publisher == p) (item ∷ []) []) found
+    (λ is here.
+    let tested : (item.publisher == p) ≡ true = ap (λ n. n == p) mine ∙ is in
+    let all : own ++ cond (item.publisher == p) (item ∷ []) [] ≡ after.sent =
+    ap (λ b. own ++ cond b (item ∷ []) []) tested ∙ ap (λ xs. xs ++ item ∷ []) here.0 ∙ sym grown in (
+      all,
+      subst (SendingsNumbered 1) (sym grown)
+          (sendings_numbered_push 1 before.sent item here.1 (omega (arith, number))),
+    ))
+    (λ other.
+    let tested : (item.publisher == p) ≡ false = ap (λ n. n == p) mine ∙ other in
+    sym (ap (λ b. own ++ cond b (item ∷ []) []) tested ∙ append-nil own))
 
 -- ---- moves
 

@@ -118,8 +118,9 @@ single_kept laws = record {
       (single_becomes old move.s move.subscriber _ h move.found
       (λ placed is. record { columns = is.columns; tables = is.tables }));
   accepts = λ old new move h. subst AreSingle (sym move.kept)
-      (single_becomes old move.s move.subscriber _ h move.found
-      (λ placed. single_more laws move.subscriber old.sequence move.delivery move.end placed move.accepts));
+      (single_becomes old move.made.s move.made.subscriber _ h move.made.found
+      (λ placed. single_more laws move.made.subscriber old.sequence move.made.delivery move.made.end placed
+      move.made.accepts));
   reconnects = λ old new move h. subst AreSingle (sym move.kept)
       (single_becomes old move.s move.subscriber _ h move.found
       (λ placed is. record { columns = is.columns; tables = is.tables }));
@@ -128,10 +129,11 @@ single_kept laws = record {
       (λ placed is. record { columns = is.columns; tables = is.tables }));
   withdraws = λ old new move h. subst AreSingle (sym move.kept) h;
   crashes = λ old new move h. crash_leaves AreSingle old new move
-      (single_becomes old move.s move.subscriber _ h move.found
+      (single_becomes old move.made.s move.made.subscriber _ h move.made.found
       (λ placed is. record { columns = is.columns; tables = is.tables }))
-      (single_becomes old move.s move.subscriber _ h move.found (λ placed is.
-      let more = single_more laws move.subscriber old.sequence move.delivery move.end placed move.would_accept is in
+      (single_becomes old move.made.s move.made.subscriber _ h move.made.found (λ placed is.
+      let more = single_more laws move.made.subscriber old.sequence move.made.delivery move.made.end placed
+      move.made.accepts is in
       record { columns = more.columns; tables = more.tables }));
   resumes = λ old new move h. subst AreSingle (sym move.kept)
       (single_becomes old move.s move.subscriber _ h move.found

@@ -45,55 +45,6 @@ pub record DeskShows : Type 0 where
   pub closes : (old : Picture) (last : ℕ) (new : Picture) → IsPicture old → close old ≡ (last, new)
       → outline.Closes (outline_of old) (outline_of new) last
 
--- ---- what each call keeps
-
-pub subscribe_keeps : KeepsPictures → (old : Picture) (start : ℕ) → IsPicture old
-    → KeepsLimits old (subscribe old start).1
-unfolding after_step
-subscribe_keeps keeps old start good = keeps old (step.Subscribe start) good
-
-pub take_keeps : KeepsPictures → (old : Picture) (s link cursor now : ℕ) → IsPicture old
-    → KeepsLimits old (take old s link cursor now).1
-unfolding after_step
-take_keeps keeps old s link cursor now good = keeps old (step.Take s link cursor now) good
-
-pub take_any_keeps : KeepsPictures → (old : Picture) (now : ℕ) → IsPicture old → KeepsLimits old (take_any old now).1
-unfolding after_step
-take_any_keeps keeps old now good = keeps old (step.TakeAny now) good
-
-pub ack_keeps : KeepsPictures → (old : Picture) (s link number cursor : ℕ) → IsPicture old
-    → KeepsLimits old (ack old s link number cursor).1
-unfolding after_step
-ack_keeps keeps old s link number cursor good = keeps old (step.Ack s link number cursor) good
-
-pub nack_keeps : KeepsPictures → (old : Picture) (s link number : ℕ) → IsPicture old
-    → KeepsLimits old (nack old s link number).1
-unfolding after_step
-nack_keeps keeps old s link number good = keeps old (step.Nack s link number) good
-
-pub open_keeps : KeepsPictures → (old : Picture) (s link number : ℕ) → IsPicture old
-    → KeepsLimits old (nack_opened old s link number).1
-unfolding after_step
-open_keeps keeps old s link number good = keeps old (step.NackOpened s link number) good
-
-pub expire_keeps : KeepsPictures → (old : Picture) (now : ℕ) → IsPicture old → KeepsLimits old (expire old now).1
-unfolding after_step
-expire_keeps keeps old now good = keeps old (step.Expire now) good
-
-pub reconnect_keeps : KeepsPictures → (old : Picture) (s cursor : ℕ) → IsPicture old
-    → KeepsLimits old (reconnect old s cursor).1
-unfolding after_step
-reconnect_keeps keeps old s cursor good = keeps old (step.Reconnect s cursor) good
-
-pub unsubscribe_keeps : KeepsPictures → (old : Picture) (s link : ℕ) → IsPicture old
-    → KeepsLimits old (unsubscribe old s link).1
-unfolding after_step
-unsubscribe_keeps keeps old s link good = keeps old (step.Unsubscribe s link) good
-
-pub close_keeps : KeepsPictures → (old : Picture) → IsPicture old → KeepsLimits old (close old).1
-unfolding after_step
-close_keeps keeps old good = keeps old step.Close good
-
 -- a placement, where the desk has a number for it
 placed_step : (old : Picture) (number : ℕ) → prepare old ≡ Ok number → after_step old step.Place ≡ place old
 unfolding after_step

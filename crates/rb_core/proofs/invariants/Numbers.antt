@@ -72,9 +72,10 @@ pub got : {A : Type 0} (xs : List A) (i : ℕ) (r : Option (Bor A)) → IsItemAt
 got xs i None is = sym (slice_get_past xs i (ltb-false i (length xs) (sym is.0)))
 got xs i (Some x) is = sym (slice_get_read xs (length xs) i x.now refl (ltb-true i (length xs) (sym is.0)) is.1)
 
--- a number from 1 on, looked up by its place
-pub found_by_place : {A : Type 0} (number : A → ℕ) (xs : List A) (m place : ℕ) (r : Option (Bor A))
-    → AreNumbered number 1 xs → 1 ≤ m → place ≡ m - 1 → IsItemAt xs place r → option_copied r
-    ≡ find (λ x. number x == m) xs
-found_by_place number xs m place r are some is got_it =
-    got xs place r got_it ∙ ap (slice_get xs) is ∙ sym (found_from_one number xs m are some)
+-- a number from 1 on, looked up by its place in the list as it is lent
+pub found_by_place : {A : Type 0} (number : A → ℕ) (lent xs : List A) (m place : ℕ) (r : Option (Bor A)) → lent ≡ xs
+    → AreNumbered number 1 xs → 1 ≤ m → place ≡ m - 1 → IsItemAt lent place r
+    → option_copied r ≡ find (λ x. number x == m) xs
+found_by_place number lent xs m place r same are some is got_it =
+    got lent place r got_it ∙ ap (λ items. slice_get items place) same ∙ ap (slice_get xs) is
+    ∙ sym (found_from_one number xs m are some)

@@ -1,14 +1,16 @@
 -- Each event of deliveries and links preserves the invariant of a world, by the cases of its outcome.
 use Rattle.std.proofs.Common.{◌≡◌, ◌↔◌, ℕ, Bool, true, false, cond, List, Option, Some, None, Result, Ok}
 use Rattle.std.proofs.Common.{Err, suc, slice_get, slice_set, refl, sym, ap, ◌∙◌, arith}
-use Rattle.std.specs.Prelude.{⊤, not}
+use Rattle.std.specs.Prelude.{not}
 use Rattle.std.proofs.lemmas.List.{length-set}
 use Rattle.rb_desk.specs.Calls as desk
 use Rattle.rb_desk.specs.declared.delivery.Delivery.{Delivery}
 use Rattle.rb_desk.specs.declared.refusal.DeskRefusal.{DeskRefusal}
+use Rattle.rb_desk.specs.declared.step.Step.TheVariants as step
 use Rattle.rb_desk.specs.Outline.{Member, Outline, outline_of}
 use Rattle.rb_desk.specs.Outline as outline
 use Rattle.rb_desk.specs.Picture.{Picture}
+use Rattle.rb_desk.specs.Steps.{after_step}
 use Rattle.rb_sequence.specs.Entry.{Entry}
 use Rattle.rb_subscriber.specs.Accept.{accept, AcceptsDelivery, crashed_as, fallen_unless_refused}
 use Rattle.rb_subscriber.specs.declared.refusal.AcceptRefusal.{AcceptRefusal}
@@ -22,8 +24,6 @@ use Rattle.rb_core.specs.Outcome.{unsubscribed_for, with_endpoint, opened_for}
 use Rattle.rb_core.specs.Outcome as outcome
 use Rattle.rb_core.specs.State.{State, member_of_end, IsWorld}
 use Rattle.rb_core.proofs.invariants.DeskLaws.{KeepsLimits, KeepsPictures, DeskShows}
-use Rattle.rb_core.proofs.invariants.DeskLaws.{ack_keeps, nack_keeps, expire_keeps, reconnect_keeps}
-use Rattle.rb_core.proofs.invariants.DeskLaws.{unsubscribe_keeps, open_keeps}
 use Rattle.rb_core.proofs.invariants.Worlds.{worlds_changed, same_outline, set_end, same_end}
 use Rattle.rb_core.proofs.invariants.Worlds.{found_end, any_steps}
 use Rattle.rb_desk.proofs.journals.KeepLaws.{call_after}
@@ -105,11 +105,12 @@ by_desk_keeps given old (Err why) new good picture same = good
 
 acked_at_keeps : KeepsPictures → DeskShows → (old : State) (delivery : Delivery) (found : Option Endpoint) → IsWorld old
     → IsWorld (acked_at old delivery found).1
+unfolding after_step
 acked_at_keeps keeps shows old delivery None good = good
 acked_at_keeps keeps shows old delivery (Some end) good =
     let call = desk.ack old.desk delivery.sub delivery.link delivery.number end.cursor in
     by_desk_keeps reply.Floor old (answer_after old.steps call.0) call.1 good
-    (ack_keeps keeps old.desk delivery.sub delivery.link delivery.number end.cursor good.picture)
+    (keeps old.desk (step.Ack delivery.sub delivery.link delivery.number end.cursor) good.picture)
     (λ floor is. shows.acks old.desk delivery.sub delivery.link delivery.number end.cursor floor call.1
     (call_after old.steps call floor is))
 
@@ -121,113 +122,117 @@ acked_keeps keeps shows old (Some delivery) good =
 
 pub nacked_keeps : KeepsPictures → DeskShows → (old : State) (found : Option Delivery) → IsWorld old
     → IsWorld (nacked_for old found).1
+unfolding after_step
 nacked_keeps keeps shows old None good = good
 nacked_keeps keeps shows old (Some delivery) good =
     let call = desk.nack old.desk delivery.sub delivery.link delivery.number in
     by_desk_keeps (λ done. reply.Returned) old (answer_after old.steps call.0) call.1 good
-    (nack_keeps keeps old.desk delivery.sub delivery.link delivery.number good.picture)
+    (keeps old.desk (step.Nack delivery.sub delivery.link delivery.number) good.picture)
     (λ done is. shows.nacks old.desk delivery.sub delivery.link delivery.number call.1
     (call_after old.steps call done is))
 
 pub opened_keeps : KeepsPictures → DeskShows → (old : State) (found : Option Delivery) → IsWorld old
     → IsWorld (opened_for old found).1
+unfolding after_step
 opened_keeps keeps shows old None good = good
 opened_keeps keeps shows old (Some delivery) good =
     let call = desk.nack_opened old.desk delivery.sub delivery.link delivery.number in
     by_desk_keeps reply.Opened old (answer_after old.steps call.0) call.1 good
-    (open_keeps keeps old.desk delivery.sub delivery.link delivery.number good.picture)
+    (keeps old.desk (step.NackOpened delivery.sub delivery.link delivery.number) good.picture)
     (λ count is. shows.opens old.desk delivery.sub delivery.link delivery.number count call.1
     (call_after old.steps call count is))
 
 pub world_events_expired_keeps : KeepsPictures → DeskShows → (old : State) (now : ℕ) → IsWorld old
     → IsWorld (outcome.expired old now).1
+unfolding after_step
 world_events_expired_keeps keeps shows old now good =
     let call = desk.expire old.desk now in
     by_desk_keeps reply.Expired old (answer_after old.steps (Ok call.0)) call.1 good
-    (expire_keeps keeps old.desk now good.picture) (λ many is. shows.expires old.desk now call.0 call.1 refl)
+    (keeps old.desk (step.Expire now) good.picture) (λ many is. shows.expires old.desk now call.0 call.1 refl)
 
 -- ---- links
 
--- an end becomes another, and so does the desk's member
-changed_end : (old : State) (s : ℕ) (next : Endpoint) (member : Member) (new : Picture) → IsWorld old
-    → KeepsLimits old.desk new
-    → (outline_of new).front ≡ (outline_of old.desk).front → (outline_of new).next_delivery
-    ≡ (outline_of old.desk).next_delivery
-    → (outline_of new).members ≡ slice_set (outline_of old.desk).members s member → member_of_end next ≡ member
-    → IsWorld (record (with_endpoint old s next) { desk = new })
-changed_end old s next member new good picture front delivery members is =
+-- what holds of a call on a subscription that isn't there, and of one on a subscription that is
+for_end : (P : Option Endpoint → Type 0) (ends : List Endpoint) (s : ℕ) → P None
+    → ((end : Endpoint) → slice_get ends s ≡ Some end → P (Some end)) → P (slice_get ends s)
+for_end P ends s none some = by (slice_get ends s) refl
+  where
+    by : (found : Option Endpoint) → slice_get ends s ≡ found → P found
+    by None is = none
+    by (Some end) is = some end is
+
+-- an end becomes another, and the desk's member changes with it
+member_changed : (old : State) (s : ℕ) (end next : Endpoint) (member : Member) (change : Member → Member)
+    (new : Picture) → slice_get old.endpoints s ≡ Some end → IsWorld old → KeepsLimits old.desk new
+    → slice_get (outline_of old.desk).members s ≡ Some member
+    → (outline_of new).front ≡ (outline_of old.desk).front
+    → (outline_of new).next_delivery ≡ (outline_of old.desk).next_delivery
+    → (outline_of new).members ≡ slice_set (outline_of old.desk).members s (change member)
+    → member_of_end next ≡ change (member_of_end end)
+    → IsWorld (record (with_endpoint old s next) { desk = new; steps = suc old.steps })
+member_changed old s end next member change new here good picture found front delivery members same =
+    let is = found_end old s end member good here found in
     let kept =
     set_end old.endpoints s next
     ∙ ap (λ (ms : List Member). slice_set ms s (member_of_end next)) good.members
-    ∙ ap (slice_set (outline_of old.desk).members s) is
+    ∙ ap (slice_set (outline_of old.desk).members s) (same ∙ ap change (sym is))
     ∙ sym members
     in
-    worlds_changed old new (slice_set old.endpoints s next) good picture front delivery kept
-    (omega (arith, length-set old.endpoints s next))
+    any_steps (record (with_endpoint old s next) { desk = new }) (suc old.steps)
+    (worlds_changed old new (slice_set old.endpoints s next) good picture front delivery kept
+    (omega (arith, length-set old.endpoints s next)))
 
-linked_keeps : (old : State) (s : ℕ) (end : Endpoint) (r : Result ℕ DeskRefusal) (new : Picture)
+-- it gets the link that the desk gives
+under_new_link : (old : State) (s : ℕ) (end next : Endpoint) (link : ℕ) (new : Picture)
     → slice_get old.endpoints s ≡ Some end → IsWorld old → KeepsLimits old.desk new
-    → ((link : ℕ) → r ≡ Ok link → outline.Reconnects (outline_of old.desk) (outline_of new) s link)
-    → IsWorld (reconnected_with old s end r new).1
-linked_keeps old s end (Ok link) new here good picture relinks =
-    let h = relinks link refl in
-    let is = found_end old s end h.member good here h.found in
-    any_steps _ (suc old.steps)
-    (changed_end old s (record end { link = link }) (record h.member { link = link }) new good picture
+    → outline.Reconnects (outline_of old.desk) (outline_of new) s link
+    → member_of_end next ≡ record (member_of_end end) { link = link }
+    → IsWorld (record (with_endpoint old s next) { desk = new; steps = suc old.steps })
+under_new_link old s end next link new here good picture h same =
+    member_changed old s end next h.member (λ m. record m { link = link }) new here good picture h.found
     (ap (λ (o : Outline). o.front) h.kept) (ap (λ (o : Outline). o.next_delivery) h.kept)
-    (ap (λ (o : Outline). o.members) h.kept) (ap (λ (m : Member). record m { link = link }) (sym is)))
-linked_keeps old s end (Err why) new here good picture relinks = good
+    (ap (λ (o : Outline). o.members) h.kept) same
 
-pub world_events_reconnected_keeps : KeepsPictures → DeskShows → (old : State) (s cursor : ℕ) (found : Option Endpoint)
-    → slice_get old.endpoints s ≡ found → IsWorld old → IsWorld (reconnected_for old s cursor found).1
-world_events_reconnected_keeps keeps shows old s cursor None is good = good
-world_events_reconnected_keeps keeps shows old s cursor (Some end) is good =
+-- what holds of a call that the desk answers, and of one that it refuses
+for_answer : {A : Type 0} (P : Result A DeskRefusal → Type 0) (r : Result A DeskRefusal)
+    → ((answer : A) → r ≡ Ok answer → P (Ok answer)) → ((why : DeskRefusal) → P (Err why)) → P r
+for_answer P (Ok answer) done refused = done answer refl
+for_answer P (Err why) done refused = refused why
+
+pub world_events_reconnected_keeps : KeepsPictures → DeskShows → (old : State) (s cursor : ℕ) → IsWorld old
+    → IsWorld (outcome.reconnected old s cursor).1
+unfolding after_step
+world_events_reconnected_keeps keeps shows old s cursor good =
+    for_end (λ found. IsWorld (reconnected_for old s cursor found).1) old.endpoints s good (λ end is.
     let call = desk.reconnect old.desk s cursor in
-    linked_keeps old s end (answer_after old.steps call.0) call.1 is good
-    (reconnect_keeps keeps old.desk s cursor good.picture)
-    (λ link e. shows.reconnects old.desk s cursor link call.1 (call_after old.steps call link e))
+    for_answer (λ r. IsWorld (reconnected_with old s end r call.1).1) (answer_after old.steps call.0)
+    (λ link e. under_new_link old s end (record end { link = link }) link call.1 is good
+    (keeps old.desk (step.Reconnect s cursor) good.picture)
+    (shows.reconnects old.desk s cursor link call.1 (call_after old.steps call link e)) refl)
+    (λ why. good))
 
-resumed_keeps : (old : State) (s : ℕ) (end : Endpoint) (r : Result ℕ DeskRefusal) (new : Picture)
-    → slice_get old.endpoints s ≡ Some end → IsWorld old → KeepsLimits old.desk new
-    → ((link : ℕ) → r ≡ Ok link → outline.Reconnects (outline_of old.desk) (outline_of new) s link)
-    → IsWorld (resumed_with old s end r new).1
-resumed_keeps old s end (Ok link) new here good picture relinks =
-    let h = relinks link refl in
-    let is = found_end old s end h.member good here h.found in
-    any_steps _ (suc old.steps)
-    (changed_end old s (record end { link = link; fallen = false }) (record h.member { link = link }) new good picture
-    (ap (λ (o : Outline). o.front) h.kept) (ap (λ (o : Outline). o.next_delivery) h.kept)
-    (ap (λ (o : Outline). o.members) h.kept) (ap (λ (m : Member). record m { link = link }) (sym is)))
-resumed_keeps old s end (Err why) new here good picture relinks = good
-
-pub resumed_for_keeps : KeepsPictures → DeskShows → (old : State) (s : ℕ) (found : Option Endpoint)
-    → slice_get old.endpoints s ≡ found → IsWorld old → IsWorld (resumed_for old s found).1
-resumed_for_keeps keeps shows old s None is good = good
-resumed_for_keeps keeps shows old s (Some end) is good =
+pub resumed_keeps : KeepsPictures → DeskShows → (old : State) (s : ℕ) → IsWorld old → IsWorld (outcome.resumed old s).1
+unfolding after_step
+resumed_keeps keeps shows old s good =
+    for_end (λ found. IsWorld (resumed_for old s found).1) old.endpoints s good (λ end is.
     let call = desk.reconnect old.desk s end.cursor in
     world_events_unless (not end.fallen) _ _ good
-    (λ fell. resumed_keeps old s end (answer_after old.steps call.0) call.1 is good
-    (reconnect_keeps keeps old.desk s end.cursor good.picture)
-    (λ link e. shows.reconnects old.desk s end.cursor link call.1 (call_after old.steps call link e)))
+    (λ fell. for_answer (λ r. IsWorld (resumed_with old s end r call.1).1) (answer_after old.steps call.0)
+    (λ link e. under_new_link old s end (record end { link = link; fallen = false }) link call.1 is good
+    (keeps old.desk (step.Reconnect s end.cursor) good.picture)
+    (shows.reconnects old.desk s end.cursor link call.1 (call_after old.steps call link e)) refl)
+    (λ why. good)))
 
-left_keeps : (old : State) (s : ℕ) (end : Endpoint) (r : Result ⊤ DeskRefusal) (new : Picture)
-    → slice_get old.endpoints s ≡ Some end → IsWorld old → KeepsLimits old.desk new
-    → (r ≡ Ok tt → outline.Unsubscribes (outline_of old.desk) (outline_of new) s)
-    → IsWorld (unsubscribed_with old s end r new).1
-left_keeps old s end (Ok done) new here good picture leaves =
-    let h = leaves refl in
-    let is = found_end old s end h.member good here h.found in
-    any_steps _ (suc old.steps)
-    (changed_end old s (record end { closed = true }) (record h.member { closed = true }) new good picture
-    (ap (λ (o : Outline). o.front) h.kept) (ap (λ (o : Outline). o.next_delivery) h.kept)
-    (ap (λ (o : Outline). o.members) h.kept) (ap (λ (m : Member). record m { closed = true }) (sym is)))
-left_keeps old s end (Err why) new here good picture leaves = good
-
-pub world_events_unsubscribed_keeps : KeepsPictures → DeskShows → (old : State) (s : ℕ) (found : Option Endpoint)
-    → slice_get old.endpoints s ≡ found → IsWorld old → IsWorld (unsubscribed_for old s found).1
-world_events_unsubscribed_keeps keeps shows old s None is good = good
-world_events_unsubscribed_keeps keeps shows old s (Some end) is good =
+pub world_events_unsubscribed_keeps : KeepsPictures → DeskShows → (old : State) (s : ℕ) → IsWorld old
+    → IsWorld (outcome.unsubscribed old s).1
+unfolding after_step
+world_events_unsubscribed_keeps keeps shows old s good =
+    for_end (λ found. IsWorld (unsubscribed_for old s found).1) old.endpoints s good (λ end is.
     let call = desk.unsubscribe old.desk s end.link in
-    left_keeps old s end (answer_after old.steps call.0) call.1 is good
-    (unsubscribe_keeps keeps old.desk s end.link good.picture)
-    (λ e. shows.unsubscribes old.desk s end.link call.1 (call_after old.steps call tt e))
+    for_answer (λ r. IsWorld (unsubscribed_with old s end r call.1).1) (answer_after old.steps call.0)
+    (λ done e.
+    let h = shows.unsubscribes old.desk s end.link call.1 (call_after old.steps call done e) in
+    member_changed old s end (record end { closed = true }) h.member (λ m. record m { closed = true }) call.1 is good
+    (keeps old.desk (step.Unsubscribe s end.link) good.picture) h.found (ap (λ (o : Outline). o.front) h.kept)
+    (ap (λ (o : Outline). o.next_delivery) h.kept) (ap (λ (o : Outline). o.members) h.kept) refl)
+    (λ why. good))

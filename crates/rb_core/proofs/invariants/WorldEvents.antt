@@ -18,9 +18,11 @@ use Rattle.cs_parse.specs.Progress as stream
 use Rattle.rb_desk.specs.Calls as desk
 use Rattle.rb_desk.specs.declared.delivery.Delivery.{Delivery}
 use Rattle.rb_desk.specs.declared.refusal.DeskRefusal.{DeskRefusal}
+use Rattle.rb_desk.specs.declared.step.Step.TheVariants as step
 use Rattle.rb_desk.specs.Outline.{Member, Outline, outline_of}
 use Rattle.rb_desk.specs.Outline as outline
 use Rattle.rb_desk.specs.Picture.{Picture}
+use Rattle.rb_desk.specs.Steps.{after_step}
 use Rattle.rb_sequence.specs.declared.item.Item.{Item}
 use Rattle.rb_sequence.specs.Entry.{Entry}
 use Rattle.rb_subscriber.specs.Accept.{IsAdmitted}
@@ -34,12 +36,10 @@ use Rattle.rb_core.specs.Outcome.{turned_with, subscribed_by, delivered_for, del
 use Rattle.rb_core.specs.Outcome.{withdrawn_from, withdrawn_by, withdrawn_for}
 use Rattle.rb_core.specs.Outcome as outcome
 use Rattle.rb_core.specs.State.{State, empty_tables, member_of_end, AdmitsBody, AdmitsStaged, IsWorld, is_withdrawn}
-use Rattle.rb_core.proofs.invariants.DeskLaws.{KeepsLimits, KeepsPictures, DeskShows, subscribe_keeps, take_keeps}
-use Rattle.rb_core.proofs.invariants.DeskLaws.{take_any_keeps}
-use Rattle.rb_core.proofs.invariants.DeskLaws.{close_keeps, place_keeps}
+use Rattle.rb_core.proofs.invariants.DeskLaws.{KeepsLimits, KeepsPictures, DeskShows, place_keeps}
 use Rattle.rb_core.proofs.invariants.WorldDeliveries.{AcceptsBySteps, world_events_unless, accepted_as_keeps, crashed_for_keeps}
 use Rattle.rb_core.proofs.invariants.WorldDeliveries.{acked_keeps, nacked_keeps, opened_keeps, world_events_expired_keeps}
-use Rattle.rb_core.proofs.invariants.WorldDeliveries.{world_events_reconnected_keeps, resumed_for_keeps}
+use Rattle.rb_core.proofs.invariants.WorldDeliveries.{world_events_reconnected_keeps, resumed_keeps}
 use Rattle.rb_core.proofs.invariants.WorldDeliveries.{world_events_unsubscribed_keeps}
 use Rattle.rb_core.proofs.invariants.Worlds.{apart, worlds_changed, handed_over, placed_next}
 use Rattle.rb_core.proofs.invariants.Worlds.{marks_changed, any_steps}
@@ -241,11 +241,12 @@ turn_keeps keeps shows old good =
     }))
 
 end_sequence_keeps : KeepsPictures → DeskShows → (old : State) → IsWorld old → IsWorld (outcome.closed old).1
+unfolding after_step
 end_sequence_keeps keeps shows old good =
     let new = (desk.close old.desk).1 in
     let ends = shows.closes old.desk (desk.close old.desk).0 new good.picture refl in
     any_steps _ (old.steps + length (closing_steps old.desk.closing))
-    (worlds_changed old new old.endpoints good (close_keeps keeps old.desk good.picture)
+    (worlds_changed old new old.endpoints good (keeps old.desk step.Close good.picture)
     (ap (λ (o : Outline). o.front) ends.kept) (ap (λ (o : Outline). o.next_delivery) ends.kept)
     (good.members ∙ sym (ap (λ (o : Outline). o.members) ends.kept)) (omega arith))
 
@@ -270,10 +271,11 @@ world_events_subscribed_keeps old start (Err why) new good picture joins = good
 subscription_keeps : KeepsPictures → DeskShows → (old : State) (start : ℕ) → IsWorld old
     → IsWorld (subscribed_by old start (answer_after old.steps (desk.subscribe old.desk start).0)
     (desk.subscribe old.desk start).1).1
+unfolding after_step
 subscription_keeps keeps shows old start good =
     let call = desk.subscribe old.desk start in
     world_events_subscribed_keeps old start (answer_after old.steps call.0) call.1 good
-    (subscribe_keeps keeps old.desk start good.picture)
+    (keeps old.desk (step.Subscribe start) good.picture)
     (λ made is. shows.subscribes old.desk start made.0 made.1 call.1 (call_after old.steps call made is))
 
 handed_keeps : (old : State) (r : Result Delivery DeskRefusal) (new : Picture) → IsWorld old → KeepsLimits old.desk new
@@ -285,20 +287,22 @@ handed_keeps old (Err why) new good picture hands = good
 
 taken_keeps : KeepsPictures → DeskShows → (old : State) (s now : ℕ) (found : Option Endpoint) → IsWorld old
     → IsWorld (delivered_for old s now found).1
+unfolding after_step
 taken_keeps keeps shows old s now None good = good
 taken_keeps keeps shows old s now (Some end) good =
     let call = desk.take old.desk s end.link end.cursor now in
     handed_keeps old (answer_after old.steps call.0) call.1 good
-    (take_keeps keeps old.desk s end.link end.cursor now good.picture)
+    (keeps old.desk (step.Take s end.link end.cursor now) good.picture)
     (λ delivery is. (shows.takes old.desk s end.link end.cursor now delivery call.1 good.picture
     (call_after old.steps call delivery is)).1)
 
 taken_any_keeps : KeepsPictures → DeskShows → (old : State) (now : ℕ) → IsWorld old
     → IsWorld (outcome.delivered_by old (answer_after old.steps (desk.take_any old.desk now).0)
     (desk.take_any old.desk now).1).1
+unfolding after_step
 taken_any_keeps keeps shows old now good =
     let call = desk.take_any old.desk now in
-    handed_keeps old (answer_after old.steps call.0) call.1 good (take_any_keeps keeps old.desk now good.picture)
+    handed_keeps old (answer_after old.steps call.0) call.1 good (keeps old.desk (step.TakeAny now) good.picture)
     (λ delivery is. shows.takes_any old.desk now delivery call.1 good.picture (call_after old.steps call delivery is))
 
 -- ---- all of these
@@ -328,8 +332,7 @@ event_keeps keeps shows steps law old (event.Nack d) good = nacked_keeps keeps s
 event_keeps keeps shows steps law old (event.NackOpened d) good = opened_keeps keeps shows old (delivery_of old d) good
 event_keeps keeps shows steps law old (event.Expire now) good = world_events_expired_keeps keeps shows old now good
 event_keeps keeps shows steps law old (event.Reconnect s cursor) good =
-    world_events_reconnected_keeps keeps shows old s cursor (slice_get old.endpoints s) refl good
-event_keeps keeps shows steps law old (event.Resume s) good =
-    resumed_for_keeps keeps shows old s (slice_get old.endpoints s) refl good
+    world_events_reconnected_keeps keeps shows old s cursor good
+event_keeps keeps shows steps law old (event.Resume s) good = resumed_keeps keeps shows old s good
 event_keeps keeps shows steps law old (event.Unsubscribe s) good =
-    world_events_unsubscribed_keeps keeps shows old s (slice_get old.endpoints s) refl good
+    world_events_unsubscribed_keeps keeps shows old s good

@@ -30,7 +30,7 @@ use Rattle.rb_core.specs.declared.event.Event.TheVariants as event
 use Rattle.rb_core.specs.declared.reply.Reply.{Reply}
 use Rattle.rb_core.specs.declared.reply.Reply.TheVariants as reply
 use Rattle.rb_core.specs.declared.reply.BrokerRefusal.TheVariants as refusal
-use Rattle.rb_core.specs.Moves.{with_subscriber, Delivers, Accepts}
+use Rattle.rb_core.specs.Moves.{Acceptance, with_subscriber, Delivers, Accepts}
 use Rattle.rb_core.specs.Outcome as out
 use Rattle.rb_core.specs.Outcome.{with_endpoint}
 use Rattle.rb_core.specs.State.{State, IsWorld, IsOf}
@@ -245,32 +245,56 @@ accepting_subscriber steps schema old world delivery end after is found of offer
       offered = subst (λ (x : Subscriber). delivery_told delivery.number x ≡ Some delivery) same offered.2;
     }
 
+-- as a move of the abstract world says it
+abbrev pub acceptance_of : (world : World) (delivery : Delivery) (end after : Endpoint)
+    → AcceptingSubscriber world delivery end after → Acceptance world
+acceptance_of world delivery end after at = record {
+  s = delivery.sub;
+  subscriber = at.subscriber;
+  delivery = delivery;
+  end = after;
+  found = at.found;
+  offered = found_in (λ (x : Delivery). x.number == delivery.number) at.subscriber.deliveries delivery at.offered;
+  accepts = at.accepts;
+}
+
+-- a delivery that the broker has under this number: it is of a subscription, and it was reported
+pub record KnownDelivery (old : State) (world : World) (d : ℕ) (delivery : Delivery) : Type 0 where
+  pub of : IsOf old.endpoints old.sequence delivery
+  pub reported : IsDelivered world.subscribers delivery
+  pub numbered : delivery.number ≡ d
+
+pub known_delivery : (schema : List Shape) (old : State) (world : World) (d : ℕ) (delivery : Delivery)
+    → out.delivery_of old d ≡ Some delivery → IsWorld old → IsToldBy schema old world
+    → KnownDelivery old world d delivery
+known_delivery schema old world d delivery found good h =
+    let test = λ (x : Delivery). x.number == d in
+    record {
+      of = all_find (IsOf old.endpoints old.sequence) test old.deliveries delivery good.are_of found;
+      reported = all_find (IsDelivered world.subscribers) test old.deliveries delivery h.deliveries found;
+      numbered = eqb-true delivery.number d (find_passes test old.deliveries delivery found);
+    }
+
 accepted_tells : AcceptSteps → (schema : List Shape) (old : State) (world : World) (d : ℕ) (delivery : Delivery)
     (end : Endpoint) (answer : Result Endpoint AcceptRefusal) → accept end old.sequence delivery ≡ answer
-    → slice_get old.endpoints delivery.sub ≡ Some end → IsOf old.endpoints old.sequence delivery
-    → IsDelivered world.subscribers delivery → delivery.number ≡ d → IsToldBy schema old world
+    → slice_get old.endpoints delivery.sub ≡ Some end → KnownDelivery old world d delivery → IsToldBy schema old world
     → TellingGoes schema world (event.Accept d) (out.accepted_by old delivery.sub answer)
-accepted_tells steps schema old world d delivery end (Err why) is found of offered number h =
+accepted_tells steps schema old world d delivery end (Err why) is found known h =
     nothing_told schema world (event.Accept d) (reply.Refused (refusal.Accept why)) old refl h
-accepted_tells steps schema old world d delivery end (Ok after) is found of offered number h =
+accepted_tells steps schema old world d delivery end (Ok after) is found known h =
     let s = delivery.sub in
-    let at = accepting_subscriber steps schema old world delivery end after is found of offered h in
+    let at = accepting_subscriber steps schema old world delivery end after is found known.of known.reported h in
     let q = at.subscriber in
     let entries = brought world.sequence delivery in
     let r = say.with_accepted entries q in
     let new = with_subscriber world s r in
     let rows : r.tables ≡ after.tables = ap (say.if_applied q.tables) at.accepts.tables in
     let takes : Accepts world new = record {
-      s = s;
-      subscriber = q;
-      delivery = delivery;
-      end = after;
-      found = at.found;
-      offered = found_in (λ (x : Delivery). x.number == delivery.number) q.deliveries delivery at.offered;
-      accepts = at.accepts;
+      made = acceptance_of world delivery end after at;
       kept = ap (λ t. with_subscriber world s (record q { accepted = q.accepted ++ entries; tables = t })) rows;
     } in
-    let as_d : delivery_told d q ≡ Some delivery = subst (λ n. delivery_told n q ≡ Some delivery) number at.offered in
+    let as_d : delivery_told d q ≡ Some delivery =
+    subst (λ n. delivery_told n q ≡ Some delivery) known.numbered at.offered in
     let is_new : told schema world (event.Accept d) (reply.Accepted s after.cursor) ≡ new =
     changed_is world s (say.accepted world.sequence d) q at.found
     ∙ ap (λ f. with_subscriber world s (say.accepted_told world.sequence f q)) as_d in
@@ -280,14 +304,12 @@ accepted_tells steps schema old world d delivery end (Ok after) is found of offe
     (end_behind world.sequence q delivery after at.placed at.accepts) h)
 
 accepted_at_tells : AcceptSteps → (schema : List Shape) (old : State) (world : World) (d : ℕ) (delivery : Delivery)
-    (found : Option Endpoint) → slice_get old.endpoints delivery.sub ≡ found → IsOf old.endpoints old.sequence delivery
-    → IsDelivered world.subscribers delivery → delivery.number ≡ d → IsToldBy schema old world
-    → TellingGoes schema world (event.Accept d) (out.accepted_at old delivery found)
-accepted_at_tells steps schema old world d delivery None found of offered number h =
+    (found : Option Endpoint) → slice_get old.endpoints delivery.sub ≡ found → KnownDelivery old world d delivery
+    → IsToldBy schema old world → TellingGoes schema world (event.Accept d) (out.accepted_at old delivery found)
+accepted_at_tells steps schema old world d delivery None found known h =
     nothing_told schema world (event.Accept d) (reply.Refused refusal.NoDelivery) old refl h
-accepted_at_tells steps schema old world d delivery (Some end) found of offered number h =
-    accepted_tells steps schema old world d delivery end (accept end old.sequence delivery) refl found of offered number
-    h
+accepted_at_tells steps schema old world d delivery (Some end) found known h =
+    accepted_tells steps schema old world d delivery end (accept end old.sequence delivery) refl found known h
 
 accepted_as_tells : AcceptSteps → (schema : List Shape) (old : State) (world : World) (d : ℕ) (found : Option Delivery)
     → out.delivery_of old d ≡ found → IsWorld old → IsToldBy schema old world
@@ -295,13 +317,8 @@ accepted_as_tells : AcceptSteps → (schema : List Shape) (old : State) (world :
 accepted_as_tells steps schema old world d None found good h =
     nothing_told schema world (event.Accept d) (reply.Refused refusal.NoDelivery) old refl h
 accepted_as_tells steps schema old world d (Some delivery) found good h =
-    let of = all_find (IsOf old.endpoints old.sequence) (λ (x : Delivery). x.number == d) old.deliveries delivery
-    good.are_of found in
-    let offered = all_find (IsDelivered world.subscribers) (λ (x : Delivery). x.number == d) old.deliveries delivery
-    h.deliveries found in
-    let number : delivery.number ≡ d = eqb-true delivery.number d
-    (find_passes (λ (x : Delivery). x.number == d) old.deliveries delivery found) in
-    accepted_at_tells steps schema old world d delivery (slice_get old.endpoints delivery.sub) refl of offered number h
+    accepted_at_tells steps schema old world d delivery (slice_get old.endpoints delivery.sub) refl
+    (known_delivery schema old world d delivery found good h) h
 
 pub accept_tells : AcceptSteps → (schema : List Shape) (old : State) (world : World) (d : ℕ) → IsWorld old
     → IsToldBy schema old world → TellingGoes schema world (event.Accept d) (out.accepted old d)
@@ -336,45 +353,40 @@ acked_at_tells shows schema old world d delivery (Some end) h =
     (λ floor ok. shows old.desk delivery.sub delivery.link delivery.number end.cursor floor call.1
     (call_after old.steps call floor ok)) h
 
-acked_tells : AckShows → (schema : List Shape) (old : State) (world : World) (d : ℕ) (found : Option Delivery)
-    → IsToldBy schema old world → TellingGoes schema world (event.Ack d) (out.acked_for old found)
-acked_tells shows schema old world d None h =
-    nothing_told schema world (event.Ack d) (reply.Refused refusal.NoDelivery) old refl h
-acked_tells shows schema old world d (Some delivery) h =
-    acked_at_tells shows schema old world d delivery (slice_get old.endpoints delivery.sub) h
+-- what holds of a call about no delivery, and of one about this delivery
+for_delivery : (P : Option Delivery → Type 0) (found : Option Delivery) → P None
+    → ((delivery : Delivery) → P (Some delivery)) → P found
+for_delivery P None none some = none
+for_delivery P (Some delivery) none some = some delivery
 
 pub ack_tells : AckShows → (schema : List Shape) (old : State) (world : World) (d : ℕ) → IsToldBy schema old world
     → TellingGoes schema world (event.Ack d) (out.acked old d)
-ack_tells shows schema old world d h = acked_tells shows schema old world d (out.delivery_of old d) h
-
-nacked_tells : NackShows → (schema : List Shape) (old : State) (world : World) (d : ℕ) (found : Option Delivery)
-    → IsToldBy schema old world → TellingGoes schema world (event.Nack d) (out.nacked_for old found)
-nacked_tells shows schema old world d None h =
-    nothing_told schema world (event.Nack d) (reply.Refused refusal.NoDelivery) old refl h
-nacked_tells shows schema old world d (Some delivery) h =
-    let call = desk.nack old.desk delivery.sub delivery.link delivery.number in
-    by_desk_tells schema old world (event.Nack d) (λ done. reply.Returned) (answer_after old.steps call.0) call.1
-    (λ done. refl) (λ why. refl)
-    (λ done ok. shows old.desk delivery.sub delivery.link delivery.number call.1 (call_after old.steps call done ok)) h
+ack_tells shows schema old world d h =
+    for_delivery (λ found. TellingGoes schema world (event.Ack d) (out.acked_for old found)) (out.delivery_of old d)
+    (nothing_told schema world (event.Ack d) (reply.Refused refusal.NoDelivery) old refl h)
+    (λ delivery. acked_at_tells shows schema old world d delivery (slice_get old.endpoints delivery.sub) h)
 
 pub nack_tells : NackShows → (schema : List Shape) (old : State) (world : World) (d : ℕ) → IsToldBy schema old world
     → TellingGoes schema world (event.Nack d) (out.nacked old d)
-nack_tells shows schema old world d h = nacked_tells shows schema old world d (out.delivery_of old d) h
+nack_tells shows schema old world d h =
+    for_delivery (λ found. TellingGoes schema world (event.Nack d) (out.nacked_for old found)) (out.delivery_of old d)
+    (nothing_told schema world (event.Nack d) (reply.Refused refusal.NoDelivery) old refl h) (λ delivery.
+    let call = desk.nack old.desk delivery.sub delivery.link delivery.number in
+    by_desk_tells schema old world (event.Nack d) (λ done. reply.Returned) (answer_after old.steps call.0) call.1
+    (λ done. refl) (λ why. refl)
+    (λ done ok. shows old.desk delivery.sub delivery.link delivery.number call.1 (call_after old.steps call done ok)) h)
 
-opened_tells : OpenShows → (schema : List Shape) (old : State) (world : World) (d : ℕ) (found : Option Delivery)
-    → IsToldBy schema old world → TellingGoes schema world (event.NackOpened d) (out.opened_for old found)
-opened_tells shows schema old world d None h =
-    nothing_told schema world (event.NackOpened d) (reply.Refused refusal.NoDelivery) old refl h
-opened_tells shows schema old world d (Some delivery) h =
+pub nack_opened_tells : OpenShows → (schema : List Shape) (old : State) (world : World) (d : ℕ)
+    → IsToldBy schema old world → TellingGoes schema world (event.NackOpened d) (out.nacked_opened old d)
+nack_opened_tells shows schema old world d h =
+    for_delivery (λ found. TellingGoes schema world (event.NackOpened d) (out.opened_for old found))
+    (out.delivery_of old d)
+    (nothing_told schema world (event.NackOpened d) (reply.Refused refusal.NoDelivery) old refl h) (λ delivery.
     let call = desk.nack_opened old.desk delivery.sub delivery.link delivery.number in
     by_desk_tells schema old world (event.NackOpened d) reply.Opened (answer_after old.steps call.0) call.1
     (λ count. refl) (λ why. refl)
     (λ count ok. shows old.desk delivery.sub delivery.link delivery.number count call.1
-    (call_after old.steps call count ok)) h
-
-pub nack_opened_tells : OpenShows → (schema : List Shape) (old : State) (world : World) (d : ℕ)
-    → IsToldBy schema old world → TellingGoes schema world (event.NackOpened d) (out.nacked_opened old d)
-nack_opened_tells shows schema old world d h = opened_tells shows schema old world d (out.delivery_of old d) h
+    (call_after old.steps call count ok)) h)
 
 pub expire_tells : ExpireShows → (schema : List Shape) (old : State) (world : World) (now : ℕ)
     → IsToldBy schema old world → TellingGoes schema world (event.Expire now) (out.expired old now)

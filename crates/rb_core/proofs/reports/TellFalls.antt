@@ -1,15 +1,12 @@
 -- What is reported of subscriptions that fall while they accept a delivery, and that are resumed.
-use Rattle.std.proofs.Common.{◌≡◌, ◌==◌, ℕ, suc, ◌<◌, inl, inr, Bool, true, false, cond, not, List, ◌∷◌, ◌++◌, Option}
-use Rattle.std.proofs.Common.{Some, None, Result, Ok, Err, refl, sym, ap, subst, ◌∙◌}
+use Rattle.std.proofs.Common.{◌≡◌, ℕ, inl, inr, Bool, true, false, cond, not, List, ◌∷◌, ◌++◌, Option}
+use Rattle.std.proofs.Common.{Some, None, Result, Ok, Err, refl, ap, subst, ◌∙◌}
 use Rattle.std.specs.Prelude.{slice_get}
-use Rattle.std.specs.List.{AllByRecursion}
-use Rattle.std.proofs.lemmas.Bool.{eqb-true}
 use Rattle.cs_model.specs.declared.shape.Shape.{Shape}
 use Rattle.rb_desk.specs.Calls as desk
 use Rattle.rb_desk.specs.declared.delivery.Delivery.{Delivery}
 use Rattle.rb_desk.specs.declared.refusal.DeskRefusal.{DeskRefusal}
 use Rattle.rb_desk.specs.declared.refusal.DeskRefusal.TheVariants.{NoSuch}
-use Rattle.rb_desk.specs.Outline.{Outline}
 use Rattle.rb_desk.specs.Picture.{Picture}
 use Rattle.rb_desk.proofs.journals.KeepLaws.{call_after}
 use Rattle.rb_desk.specs.Journaled.{answer_after}
@@ -20,18 +17,18 @@ use Rattle.rb_core.specs.declared.event.Event.TheVariants as event
 use Rattle.rb_core.specs.declared.reply.Reply.{Reply}
 use Rattle.rb_core.specs.declared.reply.Reply.TheVariants as reply
 use Rattle.rb_core.specs.declared.reply.BrokerRefusal.TheVariants as refusal
-use Rattle.rb_core.specs.Moves.{with_subscriber, IsNew, Crashes, Resumes}
+use Rattle.rb_core.specs.Moves.{with_subscriber, Crashes, Resumes}
 use Rattle.rb_core.specs.Outcome as out
 use Rattle.rb_core.specs.Outcome.{with_endpoint}
-use Rattle.rb_core.specs.State.{State, IsWorld, IsOf}
+use Rattle.rb_core.specs.State.{State, IsWorld}
 use Rattle.rb_core.specs.Told as say
-use Rattle.rb_core.specs.Told.{told, delivery_told, IsDelivered, IsToldBy}
+use Rattle.rb_core.specs.Told.{told, delivery_told, IsToldBy}
 use Rattle.rb_core.specs.World.{Subscriber, World}
-use Rattle.rb_core.proofs.whole_runs.Pairs.{all_find, found_in, find_passes}
-use Rattle.rb_core.proofs.reports.TellDeliveries.{AcceptSteps, AcceptingSubscriber, accepting_subscriber, end_behind}
-use Rattle.rb_core.proofs.reports.TellSubscriptions.{ReconnectShows}
-use Rattle.rb_core.proofs.reports.Telling.{TellingGoes, nothing_told, move_told, all_new, changed_is, subscriber_of_end}
-use Rattle.rb_core.proofs.reports.Telling.{telling_with_both, with_link}
+use Rattle.rb_core.proofs.reports.TellDeliveries.{AcceptSteps, AcceptingSubscriber, accepting_subscriber, acceptance_of}
+use Rattle.rb_core.proofs.reports.TellDeliveries.{KnownDelivery, known_delivery, end_behind}
+use Rattle.rb_core.proofs.reports.TellSubscriptions.{ReconnectShows, under_link}
+use Rattle.rb_core.proofs.reports.Telling.{TellingGoes, nothing_told, move_told, changed_is, subscriber_of_end}
+use Rattle.rb_core.proofs.reports.Telling.{telling_with_both}
 
 -- ---- one falls
 
@@ -51,16 +48,7 @@ fell_before schema old world d delivery end after at h =
     let q = at.subscriber in
     let r = fallen_subscriber q in
     let new = with_subscriber world s r in
-    let crashes : Crashes world new = record {
-      s = s;
-      subscriber = q;
-      delivery = delivery;
-      end = after;
-      found = at.found;
-      offered = found_in (λ (x : Delivery). x.number == delivery.number) q.deliveries delivery at.offered;
-      would_accept = at.accepts;
-      kept = inl refl;
-    } in
+    let crashes : Crashes world new = record { made = acceptance_of world delivery end after at; kept = inl refl } in
     move_told schema world new (event.Crash d false) (reply.Crashed s end.cursor)
     (with_endpoint old s (fallen_end end)) (changed_is world s (say.crashed world.sequence d false) q at.found)
     (inr (inr (inr (inr (inr (inr (inr (inr (inr (inr (inr (inr (inr (inl crashes))))))))))))))
@@ -80,13 +68,7 @@ fell_after schema old world d delivery end after at number h =
     let new = with_subscriber world s r in
     let rows = ap (say.if_applied q.tables) at.accepts.tables in
     let crashes : Crashes world new = record {
-      s = s;
-      subscriber = q;
-      delivery = delivery;
-      end = after;
-      found = at.found;
-      offered = found_in (λ (x : Delivery). x.number == delivery.number) q.deliveries delivery at.offered;
-      would_accept = at.accepts;
+      made = acceptance_of world delivery end after at;
       kept = inr (ap (λ t. with_subscriber world s (record q {
         accepted = q.accepted ++ entries;
         tables = t;
@@ -106,28 +88,27 @@ fell_after schema old world d delivery end after at number h =
 fell_tells : AcceptSteps → (schema : List Shape) (old : State) (world : World) (d : ℕ) (kept : Bool)
     (delivery : Delivery) (end : Endpoint) (answer : Result Endpoint AcceptRefusal)
     → accept end old.sequence delivery ≡ answer → slice_get old.endpoints delivery.sub ≡ Some end
-    → IsOf old.endpoints old.sequence delivery → IsDelivered world.subscribers delivery → delivery.number ≡ d
-    → IsToldBy schema old world
+    → KnownDelivery old world d delivery → IsToldBy schema old world
     → TellingGoes schema world (event.Crash d kept)
     (out.crashed_by old delivery.sub (fallen_unless_refused kept end answer))
-fell_tells steps schema old world d kept delivery end (Err why) is found of offered number h =
+fell_tells steps schema old world d kept delivery end (Err why) is found known h =
     nothing_told schema world (event.Crash d kept) (reply.Refused (refusal.Accept why)) old refl h
-fell_tells steps schema old world d true delivery end (Ok after) is found of offered number h =
+fell_tells steps schema old world d true delivery end (Ok after) is found known h =
     fell_after schema old world d delivery end after
-    (accepting_subscriber steps schema old world delivery end after is found of offered h) number h
-fell_tells steps schema old world d false delivery end (Ok after) is found of offered number h =
+    (accepting_subscriber steps schema old world delivery end after is found known.of known.reported h)
+    known.numbered h
+fell_tells steps schema old world d false delivery end (Ok after) is found known h =
     fell_before schema old world d delivery end after
-    (accepting_subscriber steps schema old world delivery end after is found of offered h) h
+    (accepting_subscriber steps schema old world delivery end after is found known.of known.reported h) h
 
 crashed_at_tells : AcceptSteps → (schema : List Shape) (old : State) (world : World) (d : ℕ) (kept : Bool)
     (delivery : Delivery) (found : Option Endpoint) → slice_get old.endpoints delivery.sub ≡ found
-    → IsOf old.endpoints old.sequence delivery → IsDelivered world.subscribers delivery → delivery.number ≡ d
-    → IsToldBy schema old world → TellingGoes schema world (event.Crash d kept) (out.crashed_at old delivery kept found)
-crashed_at_tells steps schema old world d kept delivery None found of offered number h =
+    → KnownDelivery old world d delivery → IsToldBy schema old world
+    → TellingGoes schema world (event.Crash d kept) (out.crashed_at old delivery kept found)
+crashed_at_tells steps schema old world d kept delivery None found known h =
     nothing_told schema world (event.Crash d kept) (reply.Refused refusal.NoDelivery) old refl h
-crashed_at_tells steps schema old world d kept delivery (Some end) found of offered number h =
-    fell_tells steps schema old world d kept delivery end (accept end old.sequence delivery) refl found of offered
-    number h
+crashed_at_tells steps schema old world d kept delivery (Some end) found known h =
+    fell_tells steps schema old world d kept delivery end (accept end old.sequence delivery) refl found known h
 
 crashed_for_tells : AcceptSteps → (schema : List Shape) (old : State) (world : World) (d : ℕ) (kept : Bool)
     (found : Option Delivery) → out.delivery_of old d ≡ found → IsWorld old → IsToldBy schema old world
@@ -135,14 +116,8 @@ crashed_for_tells : AcceptSteps → (schema : List Shape) (old : State) (world :
 crashed_for_tells steps schema old world d kept None found good h =
     nothing_told schema world (event.Crash d kept) (reply.Refused refusal.NoDelivery) old refl h
 crashed_for_tells steps schema old world d kept (Some delivery) found good h =
-    let of = all_find (IsOf old.endpoints old.sequence) (λ (x : Delivery). x.number == d) old.deliveries delivery
-    good.are_of found in
-    let offered = all_find (IsDelivered world.subscribers) (λ (x : Delivery). x.number == d) old.deliveries delivery
-    h.deliveries found in
-    let number : delivery.number ≡ d = eqb-true delivery.number d
-    (find_passes (λ (x : Delivery). x.number == d) old.deliveries delivery found) in
-    crashed_at_tells steps schema old world d kept delivery (slice_get old.endpoints delivery.sub) refl of offered
-    number h
+    crashed_at_tells steps schema old world d kept delivery (slice_get old.endpoints delivery.sub) refl
+    (known_delivery schema old world d delivery found good h) h
 
 pub crash_tells : AcceptSteps → (schema : List Shape) (old : State) (world : World) (d : ℕ) (kept : Bool)
     → IsWorld old → IsToldBy schema old world
@@ -163,27 +138,19 @@ relinked_tells : ReconnectShows → (schema : List Shape) (old : State) (world :
 relinked_tells shows schema old world s end (Err why) picture is found fell h =
     nothing_told schema world (event.Resume s) (reply.Refused (refusal.Desk why)) old refl h
 relinked_tells shows schema old world s end (Ok link) picture is found fell h =
-    let shown = shows old.desk s end.cursor link picture (is link refl) in
-    let kept = shown.kept in
     let at = subscriber_of_end schema old world s end h found in
     let q = at.0 in
     let r : Subscriber = record q { link = link; fallen = false } in
-    let other = end_resumed link end in
-    let set = telling_with_both schema old world s q r other at.1 refl refl (ap (end_resumed link) at.2) h in
+    let linked = under_link schema old world s link q r (end_resumed link end) picture
+    (shows old.desk s end.cursor link picture (is link refl)) at.1 refl refl (ap (end_resumed link) at.2) h in
     let new : World = record (with_subscriber world s r) { links = link ∷ world.links } in
-    let linked = with_link schema (with_endpoint old s other) (with_subscriber world s r) picture (suc old.steps) link
-    (ap (λ (o : Outline). o.closing) kept) shown.given (ap (λ (o : Outline). o.next_link) kept)
-    (ap (λ (o : Outline). o.next_delivery) kept) set in
-    let fresh : IsNew world.links link =
-    all_new link world.links (subst (λ n. AllByRecursion (λ (m : ℕ). m < n) world.links) (sym shown.given) h.links)
-    in
     let resumes : Resumes world new = record {
       s = s;
       subscriber = q;
       link = link;
       found = at.1;
       fell = ap (λ (e : Endpoint). e.fallen) at.2 ∙ fell;
-      new_link = fresh;
+      new_link = linked.0;
       kept = refl;
     } in
     let is_new : told schema world (event.Resume s) (reply.Link link) ≡ new =
@@ -191,7 +158,7 @@ relinked_tells shows schema old world s end (Ok link) picture is found fell h =
     (changed_is world s (say.resumed link) q at.1) in
     move_told schema world new (event.Resume s) (reply.Link link)
     (out.resumed_with old s end (Ok link) picture).1 is_new
-    (inr (inr (inr (inr (inr (inr (inr (inr (inr (inr (inr (inr (inr (inr resumes)))))))))))))) linked
+    (inr (inr (inr (inr (inr (inr (inr (inr (inr (inr (inr (inr (inr (inr resumes)))))))))))))) linked.1
 
 -- both ways of the test for the mark
 unless_fallen : (P : Reply × State → Type 0) (mark : Bool) (x y : Reply × State) → P x → (mark ≡ true → P y)

@@ -1,5 +1,5 @@
 -- What is reported of subscriptions that begin, continue under another link, and are closed.
-use Rattle.std.proofs.Common.{◌≡◌, ℕ, suc, ◌+◌, ◌<◌, ◌≤◌, inl, inr, false, true, List, [], ◌∷◌, ◌++◌, length, map, Option}
+use Rattle.std.proofs.Common.{◌≡◌, ℕ, suc, ◌+◌, ◌<◌, ◌≤◌, inl, inr, true, List, [], ◌∷◌, ◌++◌, length, map, Option}
 use Rattle.std.proofs.Common.{Some, None, Result, Ok, Err, refl, sym, ap, subst, ◌∙◌, arith}
 use Rattle.std.specs.Prelude.{⊤, slice_get}
 use Rattle.std.specs.List.{AllByRecursion}
@@ -24,7 +24,7 @@ use Rattle.rb_core.specs.Outcome.{with_endpoint}
 use Rattle.rb_core.specs.State.{State, IsWorld, empty_tables}
 use Rattle.rb_core.specs.Told as say
 use Rattle.rb_core.specs.Told.{told, IsDelivered, AreBelow, IsToldBy}
-use Rattle.rb_core.specs.World.{Subscriber, World, endpoint_of}
+use Rattle.rb_core.specs.World.{Subscriber, World, endpoint_of, subscriber_begun}
 use Rattle.rb_core.proofs.headline.Moving.{all_map, get_push}
 use Rattle.rb_core.proofs.reports.Telling.{TellingGoes, nothing_told, move_told, all_new, BeginsEmpty, changed_is}
 use Rattle.rb_core.proofs.reports.Telling.{with_subscriptions}
@@ -47,22 +47,9 @@ UnsubscribeShows = (old : Picture) (s link : ℕ) (new : Picture) → desk.unsub
 
 -- ---- one begins
 
-abbrev tell_subscriptions_one : List Shape → ℕ → ℕ → Subscriber
-tell_subscriptions_one schema start link =
-    record {
-      start = start;
-      base = empty_tables schema;
-      accepted = [];
-      tables = empty_tables schema;
-      link = link;
-      closed = false;
-      fallen = false;
-      deliveries = [];
-    }
-
 -- its end
 one_end : (schema served : List Shape) (start link : ℕ) → served ≡ schema
-    → endpoint_of (tell_subscriptions_one schema start link) ≡ new_endpoint start link (empty_tables served)
+    → endpoint_of (subscriber_begun start link (empty_tables schema)) ≡ new_endpoint start link (empty_tables served)
 one_end schema served start link same =
     let nothing : start + 0 ≡ start = omega arith in
     ap (λ n. record (new_endpoint start link (empty_tables schema)) { cursor = n }) nothing
@@ -89,7 +76,7 @@ subscribed_tells shows schema old world start (Ok made) picture is good h =
     let link = made.1 in
     let shown = shows old.desk start made.0 link picture (is made refl) in
     let kept = shown.kept in
-    let q = tell_subscriptions_one schema start link in
+    let q = subscriber_begun start link (empty_tables schema) in
     let end = new_endpoint start link (empty_tables old.schema) in
     let new = say.subscribed schema world start link in
     let linked = with_link schema old world picture (suc old.steps) link (ap (λ (o : Outline). o.closing) kept) shown.given
@@ -125,6 +112,22 @@ subscribe_tells shows schema old world start good h =
 
 -- ---- one goes on under another link
 
+-- a subscription and its end become others under a link that the desk gives: the link is new, and all is as told
+pub under_link : (schema : List Shape) (old : State) (world : World) (s link : ℕ) (q r : Subscriber) (end : Endpoint)
+    (picture : Picture) → outline.Reconnects (outline_of old.desk) (outline_of picture) s link
+    → slice_get world.subscribers s ≡ Some q → r.base ≡ q.base → r.deliveries ≡ q.deliveries → endpoint_of r ≡ end
+    → IsToldBy schema old world → IsNew world.links link
+    × IsToldBy schema (record (with_endpoint old s end) { desk = picture; steps = suc old.steps })
+    (record (with_subscriber world s r) { links = link ∷ world.links })
+under_link schema old world s link q r end picture shown found base deliveries is h =
+    let kept = shown.kept in (
+      all_new link world.links (subst (λ n. AllByRecursion (λ (m : ℕ). m < n) world.links) (sym shown.given) h.links),
+      with_link schema (with_endpoint old s end) (with_subscriber world s r) picture (suc old.steps) link
+          (ap (λ (o : Outline). o.closing) kept) shown.given (ap (λ (o : Outline). o.next_link) kept)
+          (ap (λ (o : Outline). o.next_delivery) kept)
+          (telling_with_both schema old world s q r end found base deliveries is h),
+    )
+
 abbrev tell_subscriptions_under : ℕ → Endpoint → Endpoint
 tell_subscriptions_under link end = record end { link = link }
 
@@ -136,29 +139,21 @@ linked_tells : ReconnectShows → (schema : List Shape) (old : State) (world : W
 linked_tells shows schema old world s cursor end (Err why) picture is found good h =
     nothing_told schema world (event.Reconnect s cursor) (reply.Refused (refusal.Desk why)) old refl h
 linked_tells shows schema old world s cursor end (Ok link) picture is found good h =
-    let shown = shows old.desk s cursor link picture (is link refl) in
-    let kept = shown.kept in
     let at = subscriber_of_end schema old world s end h found in
     let q = at.0 in
     let r : Subscriber = record q { link = link } in
-    let other : Endpoint = record end { link = link } in
-    let set = telling_with_both schema old world s q r other at.1 refl refl (ap (tell_subscriptions_under link) at.2)
-    h in
-    let new : World = record (with_subscriber world s r) { links = link ∷ world.links } in
-    let linked = with_link schema (with_endpoint old s other) (with_subscriber world s r) picture (suc old.steps) link
-    (ap (λ (o : Outline). o.closing) kept) shown.given (ap (λ (o : Outline). o.next_link) kept)
-    (ap (λ (o : Outline). o.next_delivery) kept) set in
-    let fresh : IsNew world.links link =
-    all_new link world.links (subst (λ n. AllByRecursion (λ (m : ℕ). m < n) world.links) (sym shown.given) h.links)
+    let linked = under_link schema old world s link q r (tell_subscriptions_under link end) picture
+    (shows old.desk s cursor link picture (is link refl)) at.1 refl refl (ap (tell_subscriptions_under link) at.2) h
     in
+    let new : World = record (with_subscriber world s r) { links = link ∷ world.links } in
     let reconnects : Reconnects world new =
-    record { s = s; subscriber = q; link = link; found = at.1; new_link = fresh; kept = refl } in
+    record { s = s; subscriber = q; link = link; found = at.1; new_link = linked.0; kept = refl } in
     let is_new : told schema world (event.Reconnect s cursor) (reply.Link link) ≡ new =
     ap (λ (w : World). record w { links = link ∷ world.links })
     (changed_is world s (say.reconnected link) q at.1) in
     move_told schema world new (event.Reconnect s cursor) (reply.Link link)
     (out.reconnected_with old s end (Ok link) picture).1 is_new
-    (inr (inr (inr (inr (inr (inr (inr (inr (inr (inr (inl reconnects))))))))))) linked
+    (inr (inr (inr (inr (inr (inr (inr (inr (inr (inr (inl reconnects))))))))))) linked.1
 
 reconnected_tells : ReconnectShows → (schema : List Shape) (old : State) (world : World) (s cursor : ℕ)
     (found : Option Endpoint) → slice_get old.endpoints s ≡ found → IsWorld old → IsToldBy schema old world

@@ -62,6 +62,20 @@ module _ (slots : List (Option Held)) where
     | inr differs ↦ rest key (ap (λ b. b || lists_key key keys) (sym differs.0) ∙ there)
   ]
 
+  -- a moment in front that none behind is earlier than
+  front_soonest : (k : ℕ) (keys : List ℕ) (a : Ticket) → moment_under k ≡ Some a →
+      ((key : ℕ) (u : Ticket) → lists_key key keys ≡ true → moment_under key ≡ Some u → earlier u a ≡ false) →
+      IsEarliest (k ∷ keys) (Some a)
+  front_soonest k keys a is rest = record {
+    key = k;
+    there = has_first k keys;
+    moment = is;
+    soonest = λ other u there moment. of_first (λ q. moment_under q ≡ Some u → earlier u a ≡ false) k keys
+        (λ here. let same : Some a ≡ Some u = sym is ∙ here in
+        let e : a ≡ u = cc in ap (λ x. earlier x a) (sym e) ∙ earlier_irreflexive a)
+        (λ q among. rest q u among) other there moment;
+  }
+
   soonest_first : (k : ℕ) (keys : List ℕ) (m o : Option Ticket) → moment_under k ≡ m → IsEarliest keys o →
       IsEarliest (k ∷ keys) (first_ticket m o)
   soonest_first k keys None None is rest = of_first (λ key. moment_under key ≡ None) k keys is rest
@@ -73,15 +87,8 @@ module _ (slots : List (Option Held)) where
         (λ here. let clash : None ≡ Some u = sym is ∙ here in absurd cc)
         (λ q among. rest.soonest q u among) other there moment;
   }
-  soonest_first k keys (Some a) None is rest = record {
-    key = k;
-    there = has_first k keys;
-    moment = is;
-    soonest = λ other u there moment. of_first (λ q. moment_under q ≡ Some u → earlier u a ≡ false) k keys
-        (λ here. let same : Some a ≡ Some u = sym is ∙ here in
-        let e : a ≡ u = cc in ap (λ x. earlier x a) (sym e) ∙ earlier_irreflexive a)
-        (λ q among here. let clash : None ≡ Some u = sym (rest q among) ∙ here in absurd cc) other there moment;
-  }
+  soonest_first k keys (Some a) None is rest =
+      front_soonest k keys a is (λ q u among here. let clash : None ≡ Some u = sym (rest q among) ∙ here in absurd cc)
   soonest_first k keys (Some a) (Some t) is rest = by_ticket (earlier t a) refl
     where
       by_ticket : (b : Bool) → earlier t a ≡ b → IsEarliest (k ∷ keys) (if b then Some t else Some a)
@@ -94,15 +101,8 @@ module _ (slots : List (Option Held)) where
             let e : a ≡ u = cc in ap (λ x. earlier x t) (sym e) ∙ earlier_asymmetric t a sooner)
             (λ q among. rest.soonest q u among) other there moment;
       }
-      by_ticket false later = record {
-        key = k;
-        there = has_first k keys;
-        moment = is;
-        soonest = λ other u there moment. of_first (λ q. moment_under q ≡ Some u → earlier u a ≡ false) k keys
-            (λ here. let same : Some a ≡ Some u = sym is ∙ here in
-            let e : a ≡ u = cc in ap (λ x. earlier x a) (sym e) ∙ earlier_irreflexive a)
-            (λ q among here. later_transitive u t a (rest.soonest q u among here) later) other there moment;
-      }
+      by_ticket false later =
+          front_soonest k keys a is (λ q u among here. later_transitive u t a (rest.soonest q u among here) later)
 
   pub is_earliest : (keys : List ℕ) → IsEarliest keys (earliest (map (held_under slots) keys))
   is_earliest [] = λ key there. absurd cc

@@ -110,6 +110,12 @@ module _ {lanes : Lanes Held} {slots : List (Option Held)} {ready out all : List
       one_list = ap (λ (l : Lanes Held). l.second) is ∙ stand.one_list;
     }
 
+-- how many are in flight where a key was taken out of its list
+pub out_left : (old new : Lanes Held) (key : ℕ) → AreWoven old →
+    new ≡ with_lane First (without_key key old.first) old →
+    length (nth_list 1 new.first) ≡ length (keys_but key (nth_list 1 old.first))
+out_left old new key are is = ap length (out_stand (step_unlinked (standing old are) key is))
+
 -- a key that was taken out of its list stands in none of the lane
 pub stands_nowhere : (key : ℕ) (lane : List (List ℕ)) → StandsIn key (without_key key lane) → ⊥
 stands_nowhere key [] stands = absurd cc

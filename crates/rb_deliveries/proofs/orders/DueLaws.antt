@@ -2,7 +2,7 @@
 use Rattle.std.proofs.Common.{◌≡◌, ℕ, zero, suc, ◌+◌, ◌<◌, ◌≤◌, Bool, true, false, List, [], ◌∷◌, ◌*◌, length}
 use Rattle.std.proofs.Common.{map, filter}
 use Rattle.std.proofs.Common.{Option, Some, None, IfSome, slice_get, slice_set, refl, sym, ap, subst, ◌∙◌, arith, cond}
-use Rattle.std.proofs.Common.{if◌then◌else◌}
+use Rattle.std.proofs.Common.{get_or, if◌then◌else◌}
 use Rattle.std.specs.List.{AllByRecursion}
 use Rattle.std.proofs.lemmas.List.{map-set}
 use Rattle.rb_deliveries.specs.declared.span.Status.TheVariants.{Ready}
@@ -17,7 +17,7 @@ use Rattle.rb_deliveries.specs.Subs.{Belongs, IsGiven}
 use Rattle.rb_deliveries.specs.Tournament.{winner_of_two, at_place, winner_from}
 use Rattle.rb_deliveries.specs.Waiting.{earliest, sub_moment, sub_ticket, is_past, FirstPast, AreWaiting, StandsAgain}
 use Rattle.rb_deliveries.proofs.orders.MomentLaws.{expired_undue, none_due, some_due, undue_held, undue_same}
-use Rattle.rb_deliveries.proofs.orders.Line.{earlier_fronts, not_earlier}
+use Rattle.rb_deliveries.proofs.orders.Line.{earlier_fronts, not_earlier, read_there}
 use Rattle.rb_deliveries.proofs.subs.KnownLaws.{all_set}
 use Rattle.rb_deliveries.proofs.spans.LaneLaws.{count_rising}
 
@@ -114,6 +114,14 @@ module _ (timeout clock : ℕ) (ticket : Held → Ticket) where
           let undue = none_due timeout clock sub.lane.held h in
           (undue_same timeout clock ticket sub.lane.held undue, undue_held timeout clock sub.lane.held undue)
 
+  -- so it is where none is found among the moments
+  pub none_past : (subs : List Sub) (moments : List (Option Ticket)) (o : Option ℕ) → moments ≡ map sub_moment subs
+      → FirstPast timeout clock moments o → o ≡ None
+      → (map (expired_sub timeout clock ticket) subs ≡ subs) × (all_due timeout clock subs ≡ 0)
+  none_past subs moments o are past is =
+      all_expired subs (subst (λ ts. FirstPast timeout clock ts None) are
+      (subst (FirstPast timeout clock moments) is past))
+
   given_expired : (next : ℕ) (held : List Held) → AllByRecursion (λ h. IsGiven next h.span.status) held
       → AllByRecursion (λ h. IsGiven next h.span.status) (map (expired_held timeout clock ticket) held)
   given_expired next [] h = tt
@@ -200,14 +208,20 @@ set_there (y ∷ xs) zero x h = refl
 set_there (y ∷ xs) (suc i) x h = set_there xs i x (omega (arith, h))
 
 -- in a call, which says what the subscription has become
-pub waiting_as : (window s : ℕ) (subs now : List Sub) (sub : Sub) (line moments new_line new_moments : List (Option
-    Ticket))
+pub waiting_as : {window : ℕ} {subs now : List Sub} {line moments new_line new_moments : List (Option Ticket)} (s : ℕ)
+    (sub : Sub)
     → AreWaiting window subs line moments → s < length subs → now ≡ slice_set subs s sub
     → ((found : Sub) → slice_get now s ≡ Some found → StandsAgain window s found line moments new_line new_moments)
     → AreWaiting window (slice_set subs s sub) new_line new_moments
-waiting_as window s subs now sub line moments new_line new_moments old less is given =
+waiting_as {window} {subs} {now} {line} {moments} {new_line} {new_moments} s sub old less is given =
     waiting_after window s subs sub line moments new_line new_moments old
     (given sub (ap (λ l. slice_get l s) is ∙ set_there subs s sub less))
+
+-- and what that is, told of the subscription that was there
+pub changed_as : {new : Sub} (subs : List Sub) (s : ℕ) (read sub : Sub) (change : Sub → Sub)
+    → read ≡ get_or subs s read
+    → slice_get subs s ≡ Some sub → new ≡ change read → new ≡ change sub
+changed_as subs s read sub change is found made = made ∙ ap change (read_there subs s read sub is found)
 
 -- ---- how many can be due
 

@@ -1,8 +1,9 @@
 -- Items with tickets, and the line that they form: how a change to the items changes the line.
 use Rattle.std.proofs.Common.{◌≡◌, Bool, true, false, cond, List, [], ◌∷◌, ◌++◌, map, Option, Some, None}
 use Rattle.std.proofs.Common.{option_map, filter, find, if◌then◌else◌, append_assoc, append-nil, refl, sym, ap, ◌∙◌}
-use Rattle.std.proofs.Common.{arith, nat_lt, ◌<◌, ◌≤◌, ◌⊎◌, inl, inr}
+use Rattle.std.proofs.Common.{arith, nat_lt, ℕ, ◌<◌, ◌≤◌, ◌⊎◌, inl, inr, get_or, slice_get}
 use Rattle.std.proofs.lemmas.Bool.{ltb-true, ltb-false}
+use Rattle.std.proofs.lemmas.Option.{get_or_from_slice_get}
 use Rattle.std.specs.Prelude.{⊤}
 use Rattle.std.specs.List.{AllByRecursion}
 use Rattle.rb_deliveries.specs.declared.ticket.Ticket.{Ticket}
@@ -28,16 +29,6 @@ pub later_transitive : (a b c : Ticket) → earlier a b ≡ false → earlier b 
 later_transitive a b c p q = grind arith
 
 -- of two tickets, the front of the later one is no smaller
-pub earlier_fronts : (a b : Ticket) → earlier a b ≡ true → a.front ≤ b.front
-earlier_fronts a b is = by (nat_lt b.front a.front) refl
-  where
-    later_front : (a b : Ticket) → b.front < a.front → earlier a b ≡ false
-    later_front a b less = grind arith
-
-    by : (t : Bool) → nat_lt b.front a.front ≡ t → a.front ≤ b.front
-    by true less = absurd (let e : true ≡ false = sym is ∙ later_front a b (ltb-true b.front a.front less) in cc)
-    by false le = ltb-false b.front a.front le
-
 pub not_earlier : (a b : Ticket) → earlier a b ≡ false → b.front ≤ a.front
 not_earlier a b is = by (nat_lt a.front b.front) refl
   where
@@ -48,7 +39,15 @@ not_earlier a b is = by (nat_lt a.front b.front) refl
     by true less = absurd (let e : true ≡ false = sym (sooner_front a b (ltb-true a.front b.front less)) ∙ is in cc)
     by false le = ltb-false a.front b.front le
 
+pub earlier_fronts : (a b : Ticket) → earlier a b ≡ true → a.front ≤ b.front
+earlier_fronts a b is = not_earlier b a (earlier_asymmetric a b is)
+
 -- ---- what holds of each thing of a list
+
+-- what is read at a place is what is found there
+pub read_there : {A : Type 0} (xs : List A) (i : ℕ) (read item : A) → read ≡ get_or xs i read →
+    slice_get xs i ≡ Some item → read ≡ item
+read_there xs i read item is found = is ∙ get_or_from_slice_get xs i item read found
 
 module _ {A : Type 0} (P : A → Type 0) where
   -- of two lists in a row

@@ -127,14 +127,16 @@ all_joined nodes room at none but i one less = but i one less (λ e. absurd (ome
 
 -- a tree in which a place was set
 pub tree_set : (nodes new : List (Option Winner)) (room len place : ℕ) (ticket : Option Ticket)
-    → IsTree nodes room len → place < length (tickets_of nodes room len) → length new ≡ room + room
-    → drop room new ≡ drop room (slice_set nodes (room + place) (at_place place ticket)) → NodesWin new room
+    (leaf : Option Winner)
+    → IsTree nodes room len → place < length (tickets_of nodes room len) → leaf ≡ at_place place ticket
+    → length new ≡ room + room → drop room new ≡ drop room (slice_set nodes (room + place) leaf) → NodesWin new room
     → IsTree new room len × (tickets_of new room len ≡ slice_set (tickets_of nodes room len) place ticket)
-tree_set nodes new room len place ticket tree there long places inner =
+tree_set nodes new room len place ticket leaf tree there made long places inner =
     let tickets = tree.leaves.0 in
     let seen = tickets_are nodes room len tickets _ tree.leaves.1 tree.leaves.2 in
     let within : place < length tickets = omega (arith, there, ap length seen) in
-    let leaves = places ∙ leaves_set nodes room place tickets _ ticket within tree.leaves.2 in
+    let leaves = places ∙ ap (λ at. drop room (slice_set nodes (room + place) at)) made
+    ∙ leaves_set nodes room place tickets _ ticket within tree.leaves.2 in
     let count = length-set tickets place ticket ∙ tree.leaves.1 in (
       record {
         long = long;

@@ -1,7 +1,7 @@
 -- The first in line among the subscriptions, told from their tickets.
 use Rattle.std.proofs.Common.{◌≡◌, ℕ, suc, ◌≤◌, Bool, true, false, not, ◌&&◌, nat_lt, nat_le}
 use Rattle.std.proofs.Common.{List, [], ◌∷◌, map, Option, Some, None, option_map, slice_get, refl}
-use Rattle.std.proofs.Common.{sym}
+use Rattle.std.proofs.Common.{get_or, sym}
 use Rattle.std.proofs.Common.{ap, ◌∙◌, arith, if◌then◌else◌}
 use Rattle.std.specs.List.{AllByRecursion}
 use Rattle.std.proofs.lemmas.Bool.{le-leb, lt-leb, ltb-true, ltb-false}
@@ -13,8 +13,8 @@ use Rattle.rb_deliveries.specs.Spans.{cut_spans, how_many_out, is_ready}
 use Rattle.rb_deliveries.specs.Lanes.{lane_held, birth, with_birth, better, earlier, if_ready, least, spans_of}
 use Rattle.rb_deliveries.specs.Subs.{Belongs, IsKnown, goes_first, next_to_deliver, first_to_deliver}
 use Rattle.rb_deliveries.specs.Tournament.{winner_of_two, at_place, winner_from}
-use Rattle.rb_deliveries.specs.Waiting.{sooner_ticket, lane_ticket, sub_ticket}
-use Rattle.rb_deliveries.proofs.orders.Line.{chosen_seen}
+use Rattle.rb_deliveries.specs.Waiting.{AreWaiting, BelongAll, sooner_ticket, lane_ticket, sub_ticket}
+use Rattle.rb_deliveries.proofs.orders.Line.{chosen_seen, read_there}
 use Rattle.rb_deliveries.proofs.orders.NodeLaws.{joined_none}
 use Rattle.rb_deliveries.proofs.spans.FirstLaws.{first_goes, goes_open}
 use Rattle.rb_deliveries.proofs.spans.LaneLaws.{first_in_line_is}
@@ -48,6 +48,14 @@ goer_better s (Some a) (Some b) = ap goer (chosen_seen (λ h. (s, h)) (earlier b
 abbrev pub drawn_by : ℕ → Option Winner → Option Winner
 drawn_by front None = None
 drawn_by front (Some w) = if nat_le w.ticket.front front then Some w else None
+
+-- where the winner is placed, its subscription's first in line is the span to deliver
+pub record ToDeliver (front window batch : ℕ) (subs : List Sub) (w : Winner) : Type 0 where
+  pub sub : Sub
+  pub held : Held
+  pub there : slice_get subs w.place ≡ Some sub
+  pub first : first_to_deliver window batch front 0 subs ≡ Some (w.place, held)
+  pub in_line : least (lane_held batch front sub.lane) ≡ Some held
 
 module _ (front : ℕ) where
   drawn_two : (a b : Option Winner) → drawn_by front (winner_of_two a b)
@@ -150,22 +158,15 @@ module _ (front : ℕ) where
         by None e = refl
         by (Some c) e = absurd (let f : Some _ ≡ None = e in cc)
 
-    -- where the winner is placed, its subscription's first in line is the span to deliver
-    pub record ToDeliver (subs : List Sub) (w : Winner) : Type 0 where
-      pub sub : Sub
-      pub held : Held
-      pub there : slice_get subs w.place ≡ Some sub
-      pub first : first_to_deliver window batch front 0 subs ≡ Some (w.place, held)
-      pub in_line : least (lane_held batch front sub.lane) ≡ Some held
-
     pub winner_delivers : (subs : List Sub) (w : Winner) → AllByRecursion (Belongs front turn number) subs
-        → winner_from 0 (map (sub_ticket window) subs) ≡ Some w → w.ticket.front ≤ front → ToDeliver subs w
+        → winner_from 0 (map (sub_ticket window) subs) ≡ Some w → w.ticket.front ≤ front
+        → ToDeliver front window batch subs w
     winner_delivers subs w belong is le =
         by (first_to_deliver window batch front 0 subs) refl (drawn_wins 0 subs belong ∙ ap (drawn_by front) is
         ∙ ap (λ t. if t then Some w else None) (le-leb w.ticket.front front le))
       where
         by : (r : Option (ℕ × Held)) → first_to_deliver window batch front 0 subs ≡ r → goer r ≡ Some w
-            → ToDeliver subs w
+            → ToDeliver front window batch subs w
         by None f e = absurd (let n : None ≡ Some w = e in cc)
         by (Some c) f e =
             let place : c.0 ≡ w.place = cc in
@@ -177,3 +178,28 @@ module _ (front : ℕ) where
               first = f ∙ ap (λ n. Some (n, c.1)) place;
               in_line = (goes_open window batch front goes.1 c.1 goes.4).1;
             }
+
+-- ---- the same, told by the line that is kept
+
+module _ {window : ℕ} {subs : List Sub} {line moments : List (Option Ticket)} (front batch : ℕ)
+    (waiting : AreWaiting window subs line moments) (belong : BelongAll front subs) (one : 1 ≤ batch) where
+  pub none_in_line : (o : Option Winner) → o ≡ winner_from 0 line → drawn_by front o ≡ None
+      → first_to_deliver window batch front 0 subs ≡ None
+  none_in_line o wins none =
+      none_delivers front window batch belong.0 belong.1 one subs o belong.2
+      (sym (wins ∙ ap (winner_from 0) waiting.in_line)) none
+
+  pub line_delivers : (w : Winner) → Some w ≡ winner_from 0 line → w.ticket.front ≤ front
+      → ToDeliver front window batch subs w
+  line_delivers w wins le =
+      winner_delivers front window batch belong.0 belong.1 one subs w belong.2
+      (sym (wins ∙ ap (winner_from 0) waiting.in_line)) le
+
+-- the subscription that is read there has that span first in line
+pub first_there : {front window batch : ℕ} {subs : List Sub} {w : Winner} (goes : ToDeliver front window batch subs w)
+    (read : Sub) (o : Option Held) → read ≡ get_or subs w.place read → o ≡ least (lane_held batch front read.lane)
+    → o ≡ Some goes.held
+first_there {front} {window} {batch} {subs} {w} goes read o is first =
+    first
+    ∙ ap (λ (sub : Sub). least (lane_held batch front sub.lane)) (read_there subs w.place read goes.sub is goes.there)
+    ∙ goes.in_line

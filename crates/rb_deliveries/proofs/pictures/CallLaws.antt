@@ -1,12 +1,12 @@
 -- Each call of `Deliveries`: what it finds in what is stored, what is stored after it, and the picture after it.
 use Rattle.std.proofs.Common.{◌≡◌, ◌⊎◌, inl, inr, ℕ, suc, ◌+◌, ◌≤◌, ◌<◌, true, false, List, [], ◌∷◌, ◌++◌, map, length}
-use Rattle.std.proofs.Common.{Result, Ok, Err, OnErr, Option, Some, None, option_map, slice_get, slice_set}
-use Rattle.std.proofs.Common.{get_or, refl, sym, ap, subst, ◌∙◌, arith}
+use Rattle.std.proofs.Common.{Result, Ok, Err, OnErr, Some, slice_get, slice_set}
+use Rattle.std.proofs.Common.{sym, ap, subst, ◌∙◌, arith}
 use Rattle.std.specs.List.{AllByRecursion}
 use Rattle.std.proofs.lemmas.List.{length-append, length-map}
-use Rattle.std.proofs.lemmas.Option.{slice_get-map, slice_get_cases}
 use Rattle.rb_deliveries.specs.declared.span.Span.{Span}
 use Rattle.rb_deliveries.specs.declared.sub.Sub.{Sub}
+use Rattle.rb_deliveries.specs.declared.ticket.Ticket.{Ticket}
 use Rattle.rb_deliveries.specs.Changes.{IsOutTo, MayContinue, MayDeliver, acked_to, all_expired, delivered_to}
 use Rattle.rb_deliveries.specs.Changes.{first_of_all, grown_picture, nacked_to, opened_to, reconnected_spans}
 use Rattle.rb_deliveries.specs.Changes.{subscribed_spans, unsubscribed_from}
@@ -27,10 +27,11 @@ use Rattle.rb_deliveries.proofs.subs.ExpiredLaws.{belongs_turned_back}
 use Rattle.rb_deliveries.proofs.subs.KnownLaws.{all_get, few_map, few_set}
 use Rattle.rb_deliveries.proofs.pictures.OpenLaws.{IsOpen}
 use Rattle.rb_deliveries.proofs.pictures.OutLaws.{out_as_is, out_running, ready_running}
+use Rattle.rb_deliveries.proofs.pictures.StoredLaws.{of_stored, slice_get_there, stored}
 use Rattle.rb_deliveries.proofs.pictures.SearchLaws.{MayGo, first_goes_of}
 use Rattle.rb_deliveries.proofs.pictures.HandLaws.{handed_pictured, belongs_handed, returned_as, belongs_returned}
 use Rattle.rb_deliveries.proofs.pictures.HandLaws.{settled_as, settled_floor, belongs_settled}
-use Rattle.rb_deliveries.proofs.pictures.OpenedLaws.{belongs_opened, opened_as, out_numbers}
+use Rattle.rb_deliveries.proofs.pictures.HandLaws.{belongs_opened, opened_as, out_numbers}
 use Rattle.rb_deliveries.proofs.pictures.CuttingLaws.{subscribed_pictured, belongs_subscribed, reconnected_pictured}
 use Rattle.rb_deliveries.proofs.pictures.CuttingLaws.{belongs_reconnected, unsubscribed_pictured, belongs_unsubscribed}
 use Rattle.rb_deliveries.proofs.pictures.PlaceLaws.{belongs_placed, placed_pictured}
@@ -44,44 +45,6 @@ suc_is_more n = omega arith
 pub on_any_error : {A E P : Type 0} (answer : Result A E) → P → OnErr answer P
 on_any_error (Ok done) p = tt
 on_any_error (Err why) p = p
-
--- ---- what is found
-
--- the stored subscription that a subscription of the picture is
-pub record IsStored (batch front : ℕ) (subs : List Sub) (s : ℕ) (q : Subscription) : Type 0 where
-  pub sub : Sub
-  pub found : slice_get subs s ≡ Some sub
-  pub same : pictured_sub batch front sub ≡ q
-
-pub stored : (batch front : ℕ) (subs : List Sub) (s : ℕ) (q : Subscription)
-    → slice_get (map (pictured_sub batch front) subs) s ≡ Some q → IsStored batch front subs s q
-stored batch front subs s q h = by (slice_get subs s) refl (sym (slice_get-map (pictured_sub batch front) subs s) ∙ h)
-  where
-    by : (o : Option Sub) → slice_get subs s ≡ o → option_map (pictured_sub batch front) o ≡ Some q
-        → IsStored batch front subs s q
-    by None is e = absurd (let none : None ≡ Some q = e in cc)
-    by (Some sub) is e = record { sub = sub; found = is; same = cc }
-
-same_sub : {a b : Sub} → Some a ≡ Some b → a ≡ b
-same_sub {a} {b} h = cc
-
--- so what holds of the one that was found holds of the subscription of the picture
-pub of_stored : (batch front : ℕ) (subs : List Sub) (s : ℕ) (P : Subscription → Type 0) (sub : Sub)
-    → slice_get subs s ≡ Some sub → P (pictured_sub batch front sub)
-    → (q : Subscription) → slice_get (map (pictured_sub batch front) subs) s ≡ Some q → P q
-of_stored batch front subs s P sub found holds q h =
-    let t = stored batch front subs s q h in
-    subst P (ap (pictured_sub batch front) (same_sub (sym found ∙ t.found)) ∙ t.same) holds
-
--- a number below a list's length is the place of an item
-item_by : {X : Type 0} (xs : List X) (i : ℕ) → i < length xs
-    → ((x : X) × (i < length xs) × (slice_get xs i ≡ Some x) × (get_or xs i x ≡ x))
-    ⊎ ((length xs ≤ i) × (slice_get xs i ≡ None)) → (x : X) × (slice_get xs i ≡ Some x)
-item_by xs i less (inl at) = (at.0, at.2)
-item_by xs i less (inr past) = absurd (omega (arith, less, past.0))
-
-slice_get_there : {X : Type 0} (xs : List X) (i : ℕ) → i < length xs → (x : X) × (slice_get xs i ≡ Some x)
-slice_get_there xs i less = item_by xs i less (slice_get_cases xs i).1
 
 abbrev pub AllRise : List Sub → Type 0
 AllRise subs = AllByRecursion (λ sub. AreRising sub.lane) subs
@@ -129,9 +92,34 @@ Gives batch front subs turn number s new made =
     × ((q : Subscription) → slice_get (map (pictured_sub batch front) subs) s ≡ Some q
     → view_of batch new.window front turn number new.subs ≡ record { picture = made q; turns = turn })
 
-module _ (batch window front turn number : ℕ) (subs : List Sub) (k : DeliveriesAgree batch front turn number subs) where
+-- the same, where one more turn was drawn
+abbrev pub GivesNext : ℕ → ℕ → List Sub → ℕ → ℕ → ℕ → KeptSubs → (Subscription → DeliveryPicture) → Type 0
+GivesNext batch front subs turn number s new made =
+    DeliveriesAgree batch front (turn + 1) number new.subs
+    × ((q : Subscription) → slice_get (map (pictured_sub batch front) subs) s ≡ Some q
+    → view_of batch new.window front (turn + 1) number new.subs ≡ record { picture = made q; turns = suc turn })
+
+module _ {batch front turn number : ℕ} {subs : List Sub} (k : DeliveriesAgree batch front turn number subs)
+    (window : ℕ) where
   abbrev old : DeliveryPicture
   old = pictured batch window front number subs
+
+  -- the tickets of the last turn drawn, and of the next
+  abbrev pub latest_ticket : Ticket
+  latest_ticket = record { front = front; turn = turn }
+
+  abbrev pub next_ticket : Ticket
+  next_ticket = record { front = front; turn = suc turn }
+
+  -- what is stored with a new subscription, and after deliveries expired
+  abbrev pub with_new : ℕ → ℕ → Ticket → KeptSubs
+  with_new start link ticket = record { window = window; subs = subs ++ new_sub start link ticket ∷ [] }
+
+  abbrev pub with_expired : ℕ → ℕ → Ticket → KeptSubs
+  with_expired timeout clock latest = record {
+    window = window;
+    subs = map (expired_sub timeout clock (by_number (turns_from latest.front latest.turn))) subs;
+  }
 
   gives : (turn' number' s : ℕ) (new : KeptSubs) (made : Subscription → DeliveryPicture) (change : Sub → Sub)
       (sub : Sub) → slice_get subs s ≡ Some sub → LeavesChanged window subs s change new
@@ -153,17 +141,21 @@ module _ (batch window front turn number : ℕ) (subs : List Sub) (k : Deliverie
         (made (pictured_sub batch front sub)) shows),
   )
 
+  gives_next : (s : ℕ) (new : KeptSubs) (made : Subscription → DeliveryPicture)
+      → Gives batch front subs (suc turn) number s new made → GivesNext batch front subs turn number s new made
+  gives_next s new made g = (
+    subst (λ n. DeliveriesAgree batch front n number new.subs) (sym (suc_is_more turn)) g.0,
+    λ q at. ap (λ n. view_of batch new.window front n number new.subs) (suc_is_more turn) ∙ g.1 q at,
+  )
+
   -- ---- subscriptions are made and go on
 
-  pub subscribed_kept : (start link : ℕ) (new : KeptSubs) → start ≤ front
-      → length (map (pictured_sub batch front) subs) < 1024
-      → new ≡ record {
-        window = window;
-        subs = subs ++ new_sub start link (record { front = front; turn = suc turn }) ∷ [];
-      }
-      → DeliveriesAgree batch front (suc turn) number new.subs
-  subscribed_kept start link new le few is =
-      agree_by batch front (suc turn) number window _ new is (record {
+  pub subscribed_kept : (start link : ℕ) (ticket : Ticket) (new : KeptSubs) → start ≤ front
+      → length (map (pictured_sub batch front) subs) < 1024 → ticket ≡ next_ticket → new ≡ with_new start link ticket
+      → DeliveriesAgree batch front (turn + 1) number new.subs
+  subscribed_kept start link ticket new le few drawn is =
+      subst (λ n. DeliveriesAgree batch front n number new.subs) (sym (suc_is_more turn))
+      (agree_by batch front (suc turn) number window _ new (is ∙ ap (with_new start link) drawn) (record {
         batch_is = k.batch_is;
         front_is = k.front_is;
         belong = belongs_subscribed front turn link number start subs le k.belong;
@@ -171,19 +163,17 @@ module _ (batch window front turn number : ℕ) (subs : List Sub) (k : Deliverie
           arith,
           few,
           length-map subs (pictured_sub batch front),
-          length-append subs (new_sub start link (record { front = front; turn = suc turn }) ∷ []),
+          length-append subs (new_sub start link next_ticket ∷ []),
         );
-      })
+      }))
 
-  pub subscribed_seen : (start link : ℕ) (new : KeptSubs)
-      → new ≡ record {
-        window = window;
-        subs = subs ++ new_sub start link (record { front = front; turn = suc turn }) ∷ [];
-      }
-      → view_of batch new.window front (suc turn) number new.subs
+  pub subscribed_seen : (start link : ℕ) (ticket : Ticket) (new : KeptSubs)
+      → ticket ≡ next_ticket → new ≡ with_new start link ticket
+      → view_of batch new.window front (turn + 1) number new.subs
       ≡ record { picture = subscribed_spans old start (cut_spans batch (suc start) front) link; turns = suc turn }
-  subscribed_seen start link new is =
-      view_by batch front (suc turn) number window _ new is _
+  subscribed_seen start link ticket new drawn is =
+      ap (λ n. view_of batch new.window front n number new.subs) (suc_is_more turn)
+      ∙ view_by batch front (suc turn) number window _ new (is ∙ ap (with_new start link) drawn) _
       (subscribed_pictured batch window front turn link number start subs k.batch_is.0 k.belong)
 
   continues : (s cursor : ℕ) → MayContinue old s cursor
@@ -201,17 +191,18 @@ module _ (batch window front turn number : ℕ) (subs : List Sub) (k : Deliverie
   pub continues_placed : (s cursor : ℕ) → MayContinue old s cursor → cursor ≤ most_numbers
   continues_placed s cursor t = omega (arith, (continues s cursor t).3, k.front_is)
 
-  pub reconnects : (s cursor link : ℕ) (new : KeptSubs) → MayContinue old s cursor
-      → LeavesChanged window subs s
-      (λ sub. reconnected_sub sub cursor link (record { front = front; turn = suc turn })) new
-      → Gives batch front subs (suc turn) number s new
+  pub reconnects : (s cursor link : ℕ) (ticket : Ticket) (new : KeptSubs) → MayContinue old s cursor
+      → ticket ≡ next_ticket → LeavesChanged window subs s (λ sub. reconnected_sub sub cursor link ticket) new
+      → GivesNext batch front subs turn number s new
       (λ q. reconnected_spans old s q cursor (cut_spans batch (suc cursor) front) link)
-  reconnects s cursor link new t left =
+  reconnects s cursor link ticket new t drawn left =
       let at = continues s cursor t in
-      gives (suc turn) number s new (λ q. reconnected_spans old s q cursor (cut_spans batch (suc cursor) front) link)
-      (λ sub. reconnected_sub sub cursor link (record { front = front; turn = suc turn })) at.0 at.1 left
+      gives_next s new (λ q. reconnected_spans old s q cursor (cut_spans batch (suc cursor) front) link)
+      (gives (suc turn) number s new (λ q. reconnected_spans old s q cursor (cut_spans batch (suc cursor) front) link)
+      (λ sub. reconnected_sub sub cursor link next_ticket) at.0 at.1
+      (subst (λ (t : Ticket). LeavesChanged window subs s (λ sub. reconnected_sub sub cursor link t) new) drawn left)
       (belongs_reconnected front turn link number s cursor subs at.0 at.3 k.belong at.1)
-      (reconnected_pictured batch window front turn link number s cursor subs at.0 k.batch_is.0 k.belong at.1 at.2)
+      (reconnected_pictured batch window front turn link number s cursor subs at.0 k.batch_is.0 k.belong at.1 at.2))
 
   -- ---- a number is placed
 
@@ -329,26 +320,28 @@ module _ (batch window front turn number : ℕ) (subs : List Sub) (k : Deliverie
 
     -- ---- a span goes back
 
-    pub nacks : (s : ℕ) (span : Span) (new : KeptSubs) → IsOutTo old s span
-        → LeavesChanged window subs s
-        (λ sub. returned_sub sub span.first (record { front = front; turn = suc turn })) new
-        → Gives batch front subs (suc turn) number s new (λ q. nacked_to old s q span)
-    nacks s span new t left =
+    pub nacks : (s : ℕ) (span : Span) (ticket : Ticket) (new : KeptSubs) → IsOutTo old s span
+        → ticket ≡ next_ticket → LeavesChanged window subs s (λ sub. returned_sub sub span.first ticket) new
+        → GivesNext batch front subs turn number s new (λ q. nacked_to old s q span)
+    nacks s span ticket new t drawn left =
         let g = out_of s span t in
-        gives (suc turn) number s new (λ q. nacked_to old s q span)
-        (λ sub. returned_sub sub span.first (record { front = front; turn = suc turn })) g.sub g.opened.found left
+        gives_next s new (λ q. nacked_to old s q span)
+        (gives (suc turn) number s new (λ q. nacked_to old s q span)
+        (λ sub. returned_sub sub span.first next_ticket) g.sub g.opened.found
+        (subst (λ (t : Ticket). LeavesChanged window subs s (λ sub. returned_sub sub span.first t) new) drawn left)
         (belongs_returned batch window front turn number subs s g.sub g.opened span.first)
-        (returned_as batch window front turn number subs s g.sub g.opened g.delivery span g.out)
+        (returned_as batch window front turn number subs s g.sub g.opened g.delivery span g.out))
 
     -- ---- a span is opened
 
-    pub opens : (s : ℕ) (span : Span) (new : KeptSubs) → IsOutTo old s span
-        → LeavesChanged window subs s (λ sub. opened_sub sub span.first (record { front = front; turn = turn })) new
+    pub opens : (s : ℕ) (span : Span) (latest : Ticket) (new : KeptSubs) → IsOutTo old s span
+        → latest ≡ latest_ticket → LeavesChanged window subs s (λ sub. opened_sub sub span.first latest) new
         → Gives batch front subs (turn + front) number s new (λ q. opened_to old s q span)
-    opens s span new t left =
+    opens s span latest new t drawn left =
         let g = out_of s span t in
         gives (turn + front) number s new (λ q. opened_to old s q span)
-        (λ sub. opened_sub sub span.first (record { front = front; turn = turn })) g.sub g.opened.found left
+        (λ sub. opened_sub sub span.first latest_ticket) g.sub g.opened.found
+        (subst (λ (t : Ticket). LeavesChanged window subs s (λ sub. opened_sub sub span.first t) new) drawn left)
         (belongs_opened batch window front turn number subs s g.sub g.opened span.first)
         (opened_as batch window front turn number subs s g.sub g.opened g.delivery span g.out)
 
@@ -374,26 +367,20 @@ module _ (batch window front turn number : ℕ) (subs : List Sub) (k : Deliverie
 
     -- ---- deliveries expire
 
-    pub expired_kept : (timeout clock : ℕ) (new : KeptSubs)
-        → new ≡ record {
-          window = window;
-          subs = map (expired_sub timeout clock (by_number (turns_from front turn))) subs;
-        }
+    pub expired_kept : (timeout clock : ℕ) (latest : Ticket) (new : KeptSubs)
+        → latest ≡ latest_ticket → new ≡ with_expired timeout clock latest
         → DeliveriesAgree batch front (turn + number) number new.subs
-    expired_kept timeout clock new is =
-        agree_by batch front (turn + number) number window _ new is (record {
+    expired_kept timeout clock latest new drawn is =
+        agree_by batch front (turn + number) number window _ new (is ∙ ap (with_expired timeout clock) drawn) (record {
           batch_is = k.batch_is;
           front_is = k.front_is;
           belong = belongs_turned_back front turn number timeout clock subs k.belong;
           few = few_map subs _ k.few;
         })
 
-    pub expired_seen : (timeout clock : ℕ) (new : KeptSubs)
-        → new ≡ record {
-          window = window;
-          subs = map (expired_sub timeout clock (by_number (turns_from front turn))) subs;
-        }
+    pub expired_seen : (timeout clock : ℕ) (latest : Ticket) (new : KeptSubs)
+        → latest ≡ latest_ticket → new ≡ with_expired timeout clock latest
         → pictured batch new.window front number new.subs ≡ all_expired old timeout clock
-    expired_seen timeout clock new is =
-        ap (λ (n : KeptSubs). pictured batch n.window front number n.subs) is
+    expired_seen timeout clock latest new drawn is =
+        ap (λ (n : KeptSubs). pictured batch n.window front number n.subs) (is ∙ ap (with_expired timeout clock) drawn)
         ∙ all_expired_pictured batch window front turn number timeout clock subs k.batch_is.0 k.belong rise

@@ -1,6 +1,6 @@
--- The picture after a span is delivered, negatively acknowledged or acknowledged.
-use Rattle.std.proofs.Common.{◌≡◌, ℕ, suc, max, true, List, [], ◌∷◌, ◌++◌, Some, filter_map, slice_get, slice_set}
-use Rattle.std.proofs.Common.{refl, sym, ap, ◌∙◌, arith}
+-- The picture after a span is delivered, negatively acknowledged, acknowledged or opened.
+use Rattle.std.proofs.Common.{◌≡◌, ℕ, suc, max, true, List, [], ◌∷◌, ◌++◌, Some, filter_map, slice_get, slice_set, refl}
+use Rattle.std.proofs.Common.{sym, ap, ◌∙◌, arith, ◌+◌, ◌≤◌, subst}
 use Rattle.std.specs.List.{AllByRecursion}
 use Rattle.rb_deliveries.specs.declared.span.Span.{Span}
 use Rattle.rb_deliveries.specs.declared.span.Status.{Status}
@@ -8,25 +8,33 @@ use Rattle.rb_deliveries.specs.declared.span.Status.TheVariants.{Ready, InFlight
 use Rattle.rb_deliveries.specs.declared.ticket.Ticket.{Ticket}
 use Rattle.rb_deliveries.specs.declared.ticket.Held.{Held}
 use Rattle.rb_deliveries.specs.declared.sub.Sub.{Sub}
-use Rattle.rb_deliveries.specs.Spans.{out_as, is_ready, is_out, with_status, without_first, floor_of}
+use Rattle.rb_deliveries.specs.Spans.{out_as, is_ready, is_out, with_status, without_first, floor_of, opened_spans}
+use Rattle.rb_deliveries.specs.Spans.{singles, span_length}
 use Rattle.rb_deliveries.specs.Lanes.{lane_floor, spans_of, lane_held, settled_lane}
 use Rattle.rb_deliveries.specs.Orders.{order, ready_at, out_at}
-use Rattle.rb_deliveries.specs.Changes.{acked_to, delivered_to, nacked_to, without_span}
+use Rattle.rb_deliveries.specs.Changes.{acked_to, delivered_to, nacked_to, without_span, named, opened_to}
 use Rattle.rb_deliveries.specs.Pictured.{pictured, pictured_sub}
 use Rattle.rb_deliveries.specs.Subs.{sub_held, Belongs, delivered_sub, returned_sub, settled_sub, IsHeld, IsDeliverable}
-use Rattle.rb_deliveries.proofs.orders.Line.{all_then}
+use Rattle.rb_deliveries.proofs.orders.Line.{all_then, all_second}
 use Rattle.rb_deliveries.proofs.orders.OrderLaws.{tagged_ready, tagged_out, order_same, order_without, order_with}
 use Rattle.rb_deliveries.proofs.spans.ChangeLaws.{Changes, stands_new, stands_left, Removes, removed_spans}
 use Rattle.rb_deliveries.proofs.spans.ChangeLaws.{removed_same, removed_left}
 use Rattle.rb_deliveries.proofs.spans.LaneLaws.{lane_floor_is, floor_restated, floor_delivered}
 use Rattle.rb_deliveries.proofs.spans.LaneChanges.{may_go_span, may_go_ready, restated_changes, handed_changes}
-use Rattle.rb_deliveries.proofs.spans.LaneChanges.{settled_changes}
-use Rattle.rb_deliveries.proofs.subs.KnownLaws.{all_set, drawn_before, held_open}
-use Rattle.rb_deliveries.proofs.subs.KnownLaws.{known_belongs_later, sub_handed, sub_returned, sub_settled}
+use Rattle.rb_deliveries.proofs.spans.LaneChanges.{settled_changes, held_span}
+use Rattle.rb_deliveries.proofs.subs.KnownLaws.{all_set, drawn_before, held_open, known_belongs_later, sub_handed}
+use Rattle.rb_deliveries.proofs.subs.KnownLaws.{sub_returned, sub_settled}
 use Rattle.rb_deliveries.proofs.spans.FoundLaws.{out_as_held}
 use Rattle.rb_deliveries.proofs.pictures.EarlierLaws.{out_earlier, ready_earlier}
 use Rattle.rb_deliveries.proofs.pictures.OpenLaws.{IsOpen, lanes, lane_found, belongs, pictured_changed, spans_changed}
 use Rattle.rb_deliveries.proofs.pictures.OpenLaws.{out_not_ready, ready_not_out, stood_not_ready, stood_not_out}
+use Rattle.rb_deliveries.specs.Opening.{opened_held, opened_lane, opened_sub}
+use Rattle.rb_deliveries.proofs.orders.OpenedOrder.{entries_late, entries_named, entries_rise, opened_entries}
+use Rattle.rb_deliveries.proofs.orders.OpenedOrder.{order_gains}
+use Rattle.rb_deliveries.proofs.spans.JoinLaws.{joins_begin}
+use Rattle.rb_deliveries.proofs.spans.OpenedSpans.{floor_opened, lane_opened, lane_spans_opened, opened_left}
+use Rattle.rb_deliveries.proofs.spans.OpenedSpans.{opened_stand_ready}
+use Rattle.rb_deliveries.proofs.subs.OpenedKnown.{sub_opened}
 
 module _ (batch window front turn number : ℕ) (subs : List Sub) (s : ℕ) (sub : Sub)
     (o : IsOpen batch front turn number subs s sub) where
@@ -77,7 +85,7 @@ module _ (batch window front turn number : ℕ) (subs : List Sub) (s : ℕ) (sub
       })
       (order_without ready_at all s span.first lane lane' tagged_ready found
       (stands_left span status sub.lane.cutting c ready_at s tagged_ready refl))
-      (order_with out_at t all s lane lane' (filter_map (out_at s) c.ahead) (filter_map (out_at s) c.behind)
+      (order_with out_at t all s lane lane' (filter_map (out_at s) c.at.ahead) (filter_map (out_at s) c.at.behind)
       ((s, span.first) ∷ []) found new.0 new.1 (out_earlier batch front turn number subs o.one o.belong))
 
   -- what is kept belongs still
@@ -115,7 +123,7 @@ module _ (batch window front turn number : ℕ) (subs : List Sub) (s : ℕ) (sub
       { spans = with_status span.first status (spans_of (sub_held batch front sub)) })
       (order ready_at all ++ (s, span.first) ∷ []) (without_span s span.first (order out_at all)) o.is_open
       (λ i. record (pictured_sub batch front sub) { floor = floor i; spans = spans i })
-      (order_with ready_at t all s lane lane' (filter_map (ready_at s) c.ahead) (filter_map (ready_at s) c.behind)
+      (order_with ready_at t all s lane lane' (filter_map (ready_at s) c.at.ahead) (filter_map (ready_at s) c.at.behind)
       ((s, span.first) ∷ []) found new.0 new.1
       (ready_earlier batch front turn number t subs o.one (drawn_before front turn) o.belong))
       (order_without out_at all s span.first lane lane' tagged_out found
@@ -195,3 +203,103 @@ module _ (batch window front turn number : ℕ) (subs : List Sub) (s : ℕ) (sub
       → AllByRecursion (Belongs front turn number) (slice_set subs s (settled_sub sub first))
   belongs_settled first = all_set (Belongs front turn number) subs s (settled_sub sub first) o.belong
       (sub_settled front turn number sub first own)
+
+  -- ---- a span is opened
+
+  abbrev latest : Ticket
+  latest = record { front = front; turn = turn }
+
+  -- the first number of a span that is held
+  some_number : (span : Span) → IsHeld sub.lane span → 1 ≤ span.first
+  some_number span held =
+      let all = subst (AllByRecursion (λ h. 1 ≤ h.span.first)) held.3
+      (joins_begin 1 sub.lane.next sub.lane.held o.rises) in
+      subst (λ (p : Span). 1 ≤ p.first) held.4
+      (all_second (λ h. 1 ≤ h.span.first) held.0 (held.1 ∷ held.2) all).0
+
+  -- what becomes of the lane
+  lane_is : (span : Span) → IsHeld sub.lane span
+      → lane_held batch front (opened_lane sub.lane span.first latest) ≡ opened_held span.first latest lane
+  lane_is span held =
+      let at = held_span 1 sub.lane span o.rises held in
+      lane_opened batch front span.first latest sub.lane o.one own.is_next (omega (arith, at))
+
+  spans_are : (span : Span) → IsHeld sub.lane span
+      → spans_of (sub_held batch front (opened_sub sub span.first latest))
+      ≡ opened_spans span.first (spans_of (sub_held batch front sub))
+  spans_are span held =
+      let at = held_span 1 sub.lane span o.rises held in
+      ap spans_of (held_open batch front (opened_sub sub span.first latest) o.is_open)
+      ∙ lane_spans_opened batch front span.first latest sub.lane o.one own.is_next (omega (arith, at))
+      ∙ ap (λ held. opened_spans span.first (spans_of held)) (sym (held_open batch front sub o.is_open))
+
+  -- its numbers stand at the end of the ready order
+  ready_are : (span : Span) → IsHeld sub.lane span → is_out span.status ≡ true
+      → order ready_at (slice_set all s (lane_held batch front (opened_lane sub.lane span.first latest)))
+      ≡ order ready_at all ++ named s (singles span.first (span_length span))
+  ready_are span held out =
+      let r = settled_changes batch front sub.lane span o.one own.is_next o.rises held in
+      let stand = opened_stand_ready span latest r s
+      (λ h is. stood_not_ready s h span is (out_not_ready span.status out)) in
+      let count : ℕ = span_length span in
+      order_gains ready_at (record { front = front; turn = suc turn }) all s lane
+      (lane_held batch front (opened_lane sub.lane span.first latest)) (filter_map (ready_at s) r.at.ahead)
+      (opened_entries s latest span.first count) (filter_map (ready_at s) r.at.behind) found stand.0
+      (ap (filter_map (ready_at s)) (lane_is span held) ∙ stand.1)
+      (entries_late s front turn span.first count (some_number span held)) (entries_rise s latest span.first count)
+      (ready_earlier batch front turn number (record { front = front; turn = suc turn }) subs o.one
+      (drawn_before front turn) o.belong)
+      ∙ ap (λ (l : List (ℕ × ℕ)). order ready_at all ++ l) (entries_named s latest span.first count)
+
+  -- it leaves the in-flight order
+  out_are : (span : Span) → IsHeld sub.lane span
+      → order out_at (slice_set all s (lane_held batch front (opened_lane sub.lane span.first latest)))
+      ≡ without_span s span.first (order out_at all)
+  out_are span held =
+      let r = settled_changes batch front sub.lane span o.one own.is_next o.rises held in
+      order_without out_at all s span.first lane (lane_held batch front (opened_lane sub.lane span.first latest))
+      tagged_out found (ap (filter_map (out_at s)) (lane_is span held) ∙ opened_left span latest r s)
+
+  -- it leaves the in-flight order, and its numbers stand at the end of the ready order
+  pub opened_pictured : (span : Span) → IsHeld sub.lane span
+      → is_out span.status ≡ true
+      → pictured batch window front number
+      (slice_set subs s (opened_sub sub span.first (record { front = front; turn = turn })))
+      ≡ opened_to (pictured batch window front number subs) s (pictured_sub batch front sub) span
+  opened_pictured span held out =
+      let floor : lane_floor (opened_lane sub.lane span.first latest) ≡ lane_floor sub.lane =
+      floor_opened 1 span.first sub.lane.next latest sub.lane.held o.rises in
+      let spans = spans_are span held in
+      pictured_changed batch window front turn number subs s sub o number
+      (opened_sub sub span.first latest)
+      (record (pictured_sub batch front sub)
+      { spans = opened_spans span.first (spans_of (sub_held batch front sub)) })
+      (order ready_at all ++ named s (singles span.first (span_length span)))
+      (without_span s span.first (order out_at all)) o.is_open
+      (λ i. record (pictured_sub batch front sub) { floor = floor i; spans = spans i })
+      (ready_are span held out) (out_are span held)
+
+  -- so it is of the one that is out as a delivery
+  pub opened_as : (delivery : ℕ) (span : Span) → out_as delivery (spans_of sub.lane.held) ≡ Some span
+      → pictured batch window front number
+      (slice_set subs s (opened_sub sub span.first (record { front = front; turn = turn })))
+      ≡ opened_to (pictured batch window front number subs) s (pictured_sub batch front sub) span
+  opened_as delivery span is = let h = out_as_held delivery sub.lane span is in opened_pictured span h.0 h.1
+
+  -- its numbers are placed
+  pub out_numbers : (delivery : ℕ) (span : Span) → out_as delivery (spans_of sub.lane.held) ≡ Some span
+      → (span.first ≤ span.last) × (span.last ≤ front)
+  out_numbers delivery span is =
+      let h = out_as_held delivery sub.lane span is in
+      let at = held_span 1 sub.lane span o.rises h.0 in
+      omega (arith, at, own.is_next)
+
+  -- what is kept belongs still, with a turn more for each number placed
+  pub belongs_opened : (first : ℕ)
+      → AllByRecursion (Belongs front (turn + front) number)
+      (slice_set subs s (opened_sub sub first (record { front = front; turn = turn })))
+  belongs_opened first =
+      all_set (Belongs front (turn + front) number) subs s (opened_sub sub first latest)
+      (all_then (Belongs front turn number) (Belongs front (turn + front) number) subs
+      (λ sub. known_belongs_later front turn (turn + front) number number sub (omega arith) (omega arith)) o.belong)
+      (sub_opened front turn number sub first own o.rises)

@@ -78,15 +78,26 @@ left_behind at s first ahead one behind tagged is others =
 abbrev pub become : Span → Status → Ticket → Held
 become span status ticket = record { span = record span { status = status }; ticket = ticket }
 
--- ys are xs, but that the one span that begins as this one does has another status and ticket
-pub record Changes (span : Span) (status : Status) (ticket : Ticket) (xs ys : List Held) : Type 0 where
+-- one of these is the span, and the others begin with other numbers
+pub record HasSpan (span : Span) (xs : List Held) : Type 0 where
   pub ahead : List Held
   pub one : Held
   pub behind : List Held
   pub is : one.span ≡ span
   pub before : xs ≡ ahead ++ one ∷ behind
-  pub after : ys ≡ ahead ++ become span status ticket ∷ behind
   pub others : AllByRecursion (Other span.first) ahead × AllByRecursion (Other span.first) behind
+
+-- what stands in an order
+stood : {span : Span} {xs : List Held} (place : HasSpan span xs) (at : At) (s : ℕ)
+    → filter_map (at s) xs ≡ filter_map (at s) place.ahead
+    ++ cons_option (at s place.one) (filter_map (at s) place.behind)
+stood place at s =
+    ap (filter_map (at s)) place.before ∙ filter_map-append (at s) place.ahead (place.one ∷ place.behind)
+
+-- ys are xs, but that the one span that begins as this one does has another status and ticket
+pub record Changes (span : Span) (status : Status) (ticket : Ticket) (xs ys : List Held) : Type 0 where
+  pub at : HasSpan span xs
+  pub after : ys ≡ at.ahead ++ become span status ticket ∷ at.behind
 
 module _ (span : Span) (status : Status) (ticket : Ticket) where
   -- where the others begin with other numbers, restating changes this one
@@ -105,42 +116,41 @@ module _ (span : Span) (status : Status) (ticket : Ticket) where
   module _ {xs ys : List Held} (c : Changes span status ticket xs ys) where
     -- that is what restating makes of them
     changed_restated : ys ≡ restated span.first status ticket xs
-    changed_restated = c.after ∙ sym (restated_one c.ahead c.one c.behind c.is c.others)
-        ∙ ap (restated span.first status ticket) (sym c.before)
+    changed_restated = c.after ∙ sym (restated_one c.at.ahead c.at.one c.at.behind c.at.is c.at.others)
+        ∙ ap (restated span.first status ticket) (sym c.at.before)
 
     -- the spans are those with this status
     pub changed_spans : spans_of ys ≡ with_status span.first status (spans_of xs)
     changed_spans = ap spans_of changed_restated ∙ spans_restated span.first status ticket xs
 
     -- what stands in an order
-    pub stood : (at : At) (s : ℕ) → filter_map (at s) xs ≡ filter_map (at s) c.ahead
-        ++ cons_option (at s c.one) (filter_map (at s) c.behind)
-    stood at s = ap (filter_map (at s)) c.before ∙ filter_map-append (at s) c.ahead (c.one ∷ c.behind)
-
-    pub stands : (at : At) (s : ℕ) → filter_map (at s) ys ≡ filter_map (at s) c.ahead
-        ++ cons_option (at s (become span status ticket)) (filter_map (at s) c.behind)
+    pub stands : (at : At) (s : ℕ) → filter_map (at s) ys ≡ filter_map (at s) c.at.ahead
+        ++ cons_option (at s (become span status ticket)) (filter_map (at s) c.at.behind)
     stands at s = ap (filter_map (at s)) c.after
-        ∙ filter_map-append (at s) c.ahead (become span status ticket ∷ c.behind)
+        ∙ filter_map-append (at s) c.at.ahead (become span status ticket ∷ c.at.behind)
 
     -- it didn't stand there, and does now
     pub stands_new : (at : At) (s : ℕ) (t : Ticket) → ((h : Held) → h.span ≡ span → at s h ≡ None)
         → at s (become span status ticket) ≡ Some (t, (s, span.first))
-        → (filter_map (at s) xs ≡ filter_map (at s) c.ahead ++ filter_map (at s) c.behind)
-        × (filter_map (at s) ys ≡ filter_map (at s) c.ahead ++ map (λ x. (t, x)) ((s, span.first) ∷ [])
-        ++ filter_map (at s) c.behind)
+        → (filter_map (at s) xs ≡ filter_map (at s) c.at.ahead ++ filter_map (at s) c.at.behind)
+        × (filter_map (at s) ys ≡ filter_map (at s) c.at.ahead ++ map (λ x. (t, x)) ((s, span.first) ∷ [])
+        ++ filter_map (at s) c.at.behind)
     stands_new at s t old new = (
-      stood at s ∙ ap (λ o. filter_map (at s) c.ahead ++ cons_option o (filter_map (at s) c.behind)) (old c.one c.is),
-      stands at s ∙ ap (λ o. filter_map (at s) c.ahead ++ cons_option o (filter_map (at s) c.behind)) new
-          ∙ sym (append_assoc (filter_map (at s) c.ahead) ((t, (s, span.first)) ∷ []) (filter_map (at s) c.behind)),
+      stood c.at at s ∙ ap (λ o. filter_map (at s) c.at.ahead ++ cons_option o (filter_map (at s) c.at.behind))
+          (old c.at.one c.at.is),
+      stands at s ∙ ap (λ o. filter_map (at s) c.at.ahead ++ cons_option o (filter_map (at s) c.at.behind)) new
+          ∙ sym (append_assoc (filter_map (at s) c.at.ahead) ((t, (s, span.first)) ∷ [])
+          (filter_map (at s) c.at.behind)),
     )
 
     -- it doesn't stand there
     pub stands_left : (at : At) (s : ℕ) → Tagged at → at s (become span status ticket) ≡ None → filter_map (at s) ys
         ≡ filter (λ e. not (is_at s span.first e.1)) (filter_map (at s) xs)
     stands_left at s tagged new =
-        stands at s ∙ ap (λ o. filter_map (at s) c.ahead ++ cons_option o (filter_map (at s) c.behind)) new
-        ∙ sym (ap (filter (λ e. not (is_at s span.first e.1))) (stood at s)
-        ∙ left_behind at s span.first c.ahead c.one c.behind tagged (ap (λ p. p.first) c.is) c.others)
+        stands at s ∙ ap (λ o. filter_map (at s) c.at.ahead ++ cons_option o (filter_map (at s) c.at.behind)) new
+        ∙ sym (ap (filter (λ e. not (is_at s span.first e.1))) (stood c.at at s)
+        ∙ left_behind at s span.first c.at.ahead c.at.one c.at.behind tagged (ap (λ p. p.first) c.at.is)
+        c.at.others)
 
 -- ---- one span is removed
 
@@ -163,13 +173,8 @@ without_others first (h ∷ xs) others =
 
 -- ys are xs without the one span that begins as this one does
 pub record Removes (span : Span) (xs ys : List Held) : Type 0 where
-  pub ahead : List Held
-  pub one : Held
-  pub behind : List Held
-  pub is : one.span ≡ span
-  pub before : xs ≡ ahead ++ one ∷ behind
-  pub after : ys ≡ ahead ++ behind
-  pub others : AllByRecursion (Other span.first) ahead × AllByRecursion (Other span.first) behind
+  pub at : HasSpan span xs
+  pub after : ys ≡ at.ahead ++ at.behind
 
 module _ (span : Span) where
   -- where the others begin with other numbers, this one is removed
@@ -189,28 +194,26 @@ module _ (span : Span) where
     -- the spans are those without it
     pub removed_spans : spans_of ys ≡ without_first span.first (spans_of xs)
     removed_spans =
-        ap spans_of (r.after ∙ sym (without_one r.ahead r.one r.behind r.is r.others)
-        ∙ ap (without_held span.first) (sym r.before)) ∙ spans_without span.first xs
+        ap spans_of (r.after ∙ sym (without_one r.at.ahead r.at.one r.at.behind r.at.is r.at.others)
+        ∙ ap (without_held span.first) (sym r.at.before)) ∙ spans_without span.first xs
 
-    -- what stood in an order, and stands there
-    removed_stood : (at : At) (s : ℕ) → filter_map (at s) xs ≡ filter_map (at s) r.ahead
-        ++ cons_option (at s r.one) (filter_map (at s) r.behind)
-    removed_stood at s = ap (filter_map (at s)) r.before ∙ filter_map-append (at s) r.ahead (r.one ∷ r.behind)
-
-    removed_stands : (at : At) (s : ℕ) → filter_map (at s) ys ≡ filter_map (at s) r.ahead
-        ++ filter_map (at s) r.behind
-    removed_stands at s = ap (filter_map (at s)) r.after ∙ filter_map-append (at s) r.ahead r.behind
+    -- what stands in an order
+    removed_stands : (at : At) (s : ℕ) → filter_map (at s) ys ≡ filter_map (at s) r.at.ahead
+        ++ filter_map (at s) r.at.behind
+    removed_stands at s = ap (filter_map (at s)) r.after ∙ filter_map-append (at s) r.at.ahead r.at.behind
 
     -- it didn't stand there
     pub removed_same : (at : At) (s : ℕ) → ((h : Held) → h.span ≡ span → at s h ≡ None)
         → filter_map (at s) ys ≡ filter_map (at s) xs
     removed_same at s old = removed_stands at s
-        ∙ ap (λ o. filter_map (at s) r.ahead ++ cons_option o (filter_map (at s) r.behind)) (sym (old r.one r.is))
-        ∙ sym (removed_stood at s)
+        ∙ ap (λ o. filter_map (at s) r.at.ahead ++ cons_option o (filter_map (at s) r.at.behind))
+        (sym (old r.at.one r.at.is))
+        ∙ sym (stood r.at at s)
 
     -- it doesn't stand there any more
     pub removed_left : (at : At) (s : ℕ) → Tagged at → filter_map (at s) ys
         ≡ filter (λ e. not (is_at s span.first e.1)) (filter_map (at s) xs)
     removed_left at s tagged =
-        removed_stands at s ∙ sym (ap (filter (λ e. not (is_at s span.first e.1))) (removed_stood at s)
-        ∙ left_behind at s span.first r.ahead r.one r.behind tagged (ap (λ p. p.first) r.is) r.others)
+        removed_stands at s ∙ sym (ap (filter (λ e. not (is_at s span.first e.1))) (stood r.at at s)
+        ∙ left_behind at s span.first r.at.ahead r.at.one r.at.behind tagged (ap (λ p. p.first) r.at.is)
+        r.at.others)

@@ -15,7 +15,7 @@ use Rattle.rb_deliveries.specs.Subs.{IsHeld, IsDeliverable}
 use Rattle.rb_deliveries.proofs.spans.CutLaws.{cut_none, cut_some, cut_ends}
 use Rattle.rb_deliveries.proofs.orders.Line.{all_first, all_second}
 use Rattle.rb_deliveries.proofs.spans.JoinLaws.{Other, joins_lane, joins_end, joins_others}
-use Rattle.rb_deliveries.proofs.spans.ChangeLaws.{Changes, Removes, become, restated_one, without_one}
+use Rattle.rb_deliveries.proofs.spans.ChangeLaws.{Changes, HasSpan, Removes, become, restated_one, without_one}
 
 -- ---- which span it is
 
@@ -86,26 +86,33 @@ module _ (batch front : ℕ) (kept : Lane) (span : Span) (one : 1 ≤ batch) (le
       (joins_others 1 (suc front) ahead h behind
       (subst (λ xs. HeldRise 1 xs (suc front)) whole (joins_lane batch front kept one le j)))
 
-  -- a span that is held becomes so
-  pub restated_changes : (status : Status) (ticket : Ticket) → IsHeld kept span
-      → Changes span status ticket (lane_held batch front kept)
-      (lane_held batch front (restated_lane kept span.first status ticket))
-  restated_changes status ticket held =
+  -- where a span that is held stands
+  abbrev held_place : IsHeld kept span → HasSpan span (lane_held batch front kept)
+  held_place held =
       let whole : lane_held batch front kept ≡ held.0 ++ held.1 ∷ (held.2 ++ rest_of) = ap (λ xs. xs ++ rest_of) held.3
       ∙ append_assoc held.0 (held.1 ∷ held.2) rest_of in
-      let others = others_of held.0 held.1 (held.2 ++ rest_of) held.4 whole in
       record {
         ahead = held.0;
         one = held.1;
         behind = held.2 ++ rest_of;
         is = held.4;
         before = whole;
+        others = others_of held.0 held.1 (held.2 ++ rest_of) held.4 whole;
+      }
+
+  -- a span that is held becomes so
+  pub restated_changes : (status : Status) (ticket : Ticket) → IsHeld kept span
+      → Changes span status ticket (lane_held batch front kept)
+      (lane_held batch front (restated_lane kept span.first status ticket))
+  restated_changes status ticket held =
+      let others = (held_place held).others in
+      record {
+        at = held_place held;
         after = ap (λ xs. restated span.first status ticket xs ++ rest_of) held.3
             ∙ ap (λ xs. xs ++ rest_of)
             (restated_one span status ticket held.0 held.1 held.2 held.4
             (others.0, all_first (Other span.first) held.2 rest_of others.1))
             ∙ append_assoc held.0 (become span status ticket ∷ held.2) rest_of;
-        others = others;
       }
 
   -- the first one of the cutting becomes so, and is held
@@ -117,13 +124,15 @@ module _ (batch front : ℕ) (kept : Lane) (span : Span) (one : 1 ≤ batch) (le
       let whole : lane_held batch front kept ≡ kept.held ++ with_birth kept.cutting span ∷ later =
       ap (λ spans. kept.held ++ ticketed kept.cutting spans) l.rest in
       record {
-        ahead = kept.held;
-        one = with_birth kept.cutting span;
-        behind = later;
-        is = refl;
-        before = whole;
+        at = record {
+          ahead = kept.held;
+          one = with_birth kept.cutting span;
+          behind = later;
+          is = refl;
+          before = whole;
+          others = others_of kept.held (with_birth kept.cutting span) later refl whole;
+        };
         after = append_assoc kept.held (become span status kept.cutting ∷ []) later;
-        others = others_of kept.held (with_birth kept.cutting span) later refl whole;
       }
 
   -- one that may go is handed over
@@ -148,19 +157,12 @@ module _ (batch front : ℕ) (kept : Lane) (span : Span) (one : 1 ≤ batch) (le
   pub settled_changes : IsHeld kept span
       → Removes span (lane_held batch front kept) (lane_held batch front (settled_lane kept span.first))
   settled_changes held =
-      let whole : lane_held batch front kept ≡ held.0 ++ held.1 ∷ (held.2 ++ rest_of) = ap (λ xs. xs ++ rest_of) held.3
-      ∙ append_assoc held.0 (held.1 ∷ held.2) rest_of in
-      let others = others_of held.0 held.1 (held.2 ++ rest_of) held.4 whole in
+      let others = (held_place held).others in
       record {
-        ahead = held.0;
-        one = held.1;
-        behind = held.2 ++ rest_of;
-        is = held.4;
-        before = whole;
+        at = held_place held;
         after = ap (λ xs. without_held span.first xs ++ rest_of) held.3
             ∙ ap (λ xs. xs ++ rest_of)
             (without_one span held.0 held.1 held.2 held.4
             (others.0, all_first (Other span.first) held.2 rest_of others.1))
             ∙ append_assoc held.0 held.2 rest_of;
-        others = others;
       }

@@ -110,43 +110,45 @@ module _ (span : Span) (latest : Ticket) {xs zs : List Held} (r : Removes span x
   own = singles_held latest span.first (span_length span)
 
   -- its numbers stand in its place
-  opened_one : opened_held span.first latest xs ≡ r.ahead ++ (own ++ r.behind)
+  opened_one : opened_held span.first latest xs ≡ r.at.ahead ++ (own ++ r.at.behind)
   opened_one =
-      ap (opened_held span.first latest) r.before ∙ opened_both span.first latest r.ahead (r.one ∷ r.behind)
-      ∙ (λ i. opened_others span.first latest r.ahead r.others.0 i
-      ++ (here i ++ opened_others span.first latest r.behind r.others.1 i))
+      ap (opened_held span.first latest) r.at.before
+      ∙ opened_both span.first latest r.at.ahead (r.at.one ∷ r.at.behind)
+      ∙ (λ i. opened_others span.first latest r.at.ahead r.at.others.0 i
+      ++ (here i ++ opened_others span.first latest r.at.behind r.at.others.1 i))
     where
-      here : cond (r.one.span.first == span.first) (singles_held latest r.one.span.first (span_length r.one.span))
-          (r.one ∷ []) ≡ own
+      here : cond (r.at.one.span.first == span.first)
+          (singles_held latest r.at.one.span.first (span_length r.at.one.span))
+          (r.at.one ∷ []) ≡ own
       here =
-          ap (λ b. cond b (singles_held latest r.one.span.first (span_length r.one.span)) (r.one ∷ []))
-          (eq-eqb r.one.span.first span.first (ap (λ (p : Span). p.first) r.is))
-          ∙ ap (λ (p : Span). singles_held latest p.first (span_length p)) r.is
+          ap (λ b. cond b (singles_held latest r.at.one.span.first (span_length r.at.one.span)) (r.at.one ∷ []))
+          (eq-eqb r.at.one.span.first span.first (ap (λ (p : Span). p.first) r.at.is))
+          ∙ ap (λ (p : Span). singles_held latest p.first (span_length p)) r.at.is
 
   opened_stands : (at : At) (s : ℕ) → filter_map (at s) (opened_held span.first latest xs)
-      ≡ filter_map (at s) r.ahead ++ (filter_map (at s) own ++ filter_map (at s) r.behind)
+      ≡ filter_map (at s) r.at.ahead ++ (filter_map (at s) own ++ filter_map (at s) r.at.behind)
   opened_stands at s =
-      ap (filter_map (at s)) opened_one ∙ filter_map-append (at s) r.ahead (own ++ r.behind)
-      ∙ ap (λ z. filter_map (at s) r.ahead ++ z) (filter_map-append (at s) own r.behind)
+      ap (filter_map (at s)) opened_one ∙ filter_map-append (at s) r.at.ahead (own ++ r.at.behind)
+      ∙ ap (λ z. filter_map (at s) r.at.ahead ++ z) (filter_map-append (at s) own r.at.behind)
 
   -- it leaves the in-flight order
   pub opened_left : (s : ℕ) → filter_map (out_at s) (opened_held span.first latest xs)
       ≡ filter (λ e. not (is_at s span.first e.1)) (filter_map (out_at s) xs)
   opened_left s =
       opened_stands out_at s
-      ∙ ap (λ z. filter_map (out_at s) r.ahead ++ (z ++ filter_map (out_at s) r.behind))
+      ∙ ap (λ z. filter_map (out_at s) r.at.ahead ++ (z ++ filter_map (out_at s) r.at.behind))
       (singles_not_out s latest span.first (span_length span))
-      ∙ sym (ap (filter_map (out_at s)) r.after ∙ filter_map-append (out_at s) r.ahead r.behind)
+      ∙ sym (ap (filter_map (out_at s)) r.after ∙ filter_map-append (out_at s) r.at.ahead r.at.behind)
       ∙ removed_left span r out_at s tagged_out
 
   -- it wasn't in the ready order, and its numbers are
   pub opened_stand_ready : (s : ℕ) → ((h : Held) → h.span ≡ span → ready_at s h ≡ None)
-      → (filter_map (ready_at s) xs ≡ filter_map (ready_at s) r.ahead ++ filter_map (ready_at s) r.behind)
+      → (filter_map (ready_at s) xs ≡ filter_map (ready_at s) r.at.ahead ++ filter_map (ready_at s) r.at.behind)
       × (filter_map (ready_at s) (opened_held span.first latest xs)
-      ≡ filter_map (ready_at s) r.ahead ++ (filter_map (ready_at s) own ++ filter_map (ready_at s) r.behind))
+      ≡ filter_map (ready_at s) r.at.ahead ++ (filter_map (ready_at s) own ++ filter_map (ready_at s) r.at.behind))
   opened_stand_ready s old = (
-    ap (filter_map (ready_at s)) r.before ∙ filter_map-append (ready_at s) r.ahead (r.one ∷ r.behind)
-        ∙ ap (λ o. filter_map (ready_at s) r.ahead ++ cons_option o (filter_map (ready_at s) r.behind))
-        (old r.one r.is),
+    ap (filter_map (ready_at s)) r.at.before ∙ filter_map-append (ready_at s) r.at.ahead (r.at.one ∷ r.at.behind)
+        ∙ ap (λ o. filter_map (ready_at s) r.at.ahead ++ cons_option o (filter_map (ready_at s) r.at.behind))
+        (old r.at.one r.at.is),
     opened_stands ready_at s,
   )

@@ -8,7 +8,7 @@ use Rattle.std.proofs.lemmas.Bool.Decides.{eqb_tells}
 use Rattle.rb_desk.specs.Calls.{take, delivered_from, delivered_span, delivery_from, is_drained, none_ready}
 use Rattle.rb_deliveries.specs.Changes.{has_room}
 use Rattle.rb_desk.specs.Calls.{refused_call}
-use Rattle.rb_desk.proofs.pictures.KeepCut.{either_way}
+use Rattle.rb_desk.proofs.calls.CallCases.{either_way}
 use Rattle.rb_deliveries.specs.Spans.{first_ready}
 use Rattle.rb_deliveries.specs.declared.span.Span.{Span}
 use Rattle.rb_desk.specs.Picture.{Picture}

@@ -3,7 +3,7 @@ use Rattle.std.proofs.Common.{◌≡◌, ℕ, suc, ◌≤◌, List, [], ◌∷�
 use Rattle.std.proofs.Common.{ap, ◌∙◌, length-append, arith, Bool, true, false, cond, Result, Err}
 use Rattle.rb_desk.specs.Calls.{prepare, place, close, last_number}
 use Rattle.rb_desk.specs.Journal.{Log}
-use Rattle.rb_desk.specs.Journaled.{TalliedPicture, tallied, answer_after, is_full}
+use Rattle.rb_desk.specs.Journaled.{TalliedPicture, JournalAgrees, tallied, answer_after, is_full}
 use Rattle.rb_desk.specs.declared.refusal.DeskRefusal.{DeskRefusal}
 use Rattle.rb_desk.specs.declared.refusal.DeskRefusal.TheVariants.{JournalFull}
 use Rattle.rb_desk.specs.Picture.{Picture, empty_picture}
@@ -24,11 +24,6 @@ pub call_after : {A : Type 0} (steps : ℕ) (call : Result A DeskRefusal × Pict
 call_after {A} steps call a is = ap (λ (r : Result A DeskRefusal). (r, call.1)) (ok_unless (is_full steps) call.0 a is)
 
 -- ---- what is kept
-
--- what a desk keeps of its board and its journal
-abbrev pub JournalAgrees : TalliedPicture → Log → Type 0
-JournalAgrees board log = (replay board.picture.limits log.steps ≡ board.picture) × (board.steps ≡ length log.steps)
-    × (board.picture.closing ≡ None → 1 ≤ log.room)
 
 abbrev pub StepsKeepLimits : Type 0
 StepsKeepLimits = (p : Picture) (step : Step) → (after_step p step).limits ≡ p.limits
@@ -52,19 +47,19 @@ one_longer steps after step grown =
     let all = ap length grown ∙ length-append steps (step ∷ []) in omega (arith, all)
 
 -- a call that isn't refused: it made room for two steps, and pushed its own
-pub call_kept : StepsKeepLimits → (old new : TalliedPicture) (picture : Picture) (step : Step) (before ready after : Log)
-    → JournalAgrees old before → new ≡ tallied old picture → after_step old.picture step ≡ picture
-    → ready.steps ≡ before.steps → 2 ≤ ready.room → after.steps ≡ ready.steps ++ step ∷ []
-    → suc after.room ≡ ready.room → JournalAgrees new after
-call_kept keep old new picture step before ready after kept made leads same room grown used =
+pub call_kept : {old new : TalliedPicture} {before after : Log} (picture : Picture) (step : Step) (ready : Log)
+    → StepsKeepLimits → JournalAgrees old before → new ≡ tallied old picture → after.steps ≡ ready.steps ++ step ∷ []
+    → suc after.room ≡ ready.room → ready.steps ≡ before.steps → after_step old.picture step ≡ picture
+    → 2 ≤ ready.room → JournalAgrees new after
+call_kept {old} {new} {before} {after} picture step ready keep kept made grown used same leads room =
     let whole : after.steps ≡ before.steps ++ step ∷ [] = grown ∙ ap (λ xs. xs ++ step ∷ []) same in
     let longer = one_longer before.steps after.steps step whole in
-    let one = ap (λ (b : TalliedPicture). b.steps) made in (
-      replays_on keep old.picture new.picture before.steps after.steps step kept.0
-          (leads ∙ ap (λ (b : TalliedPicture). b.picture) (sym made)) whole,
-      omega (arith, longer, one, kept.1),
-      λ _. omega (arith, room, used),
-    )
+    let one = ap (λ (b : TalliedPicture). b.steps) made in record {
+      leads = replays_on keep old.picture new.picture before.steps after.steps step kept.leads
+          (leads ∙ ap (λ (b : TalliedPicture). b.picture) (sym made)) whole;
+      counted = omega (arith, longer, one, kept.counted);
+      room = λ _. omega (arith, room, used);
+    }
 
 -- ---- placing and closing
 
@@ -82,13 +77,14 @@ pub place_kept : StepsKeepLimits → (old new : TalliedPicture) (n : ℕ) (befor
 place_kept keep old new n before after kept ready made grown same =
     let longer = one_longer before.steps after.steps Place grown in
     let one = ap (λ (b : TalliedPicture). b.steps) made in
-    let picture = ap (λ (b : TalliedPicture). b.picture) made in (
-      replays_on keep old.picture new.picture before.steps after.steps Place kept.0
-          (place_step old.picture n ready ∙ sym picture) grown,
-      omega (arith, longer, one, kept.1),
-      λ none. let had = kept.2 (sym (place_closing old.picture) ∙ ap (λ (p : Picture). p.closing) (sym picture) ∙ none) in
-          omega (arith, had, same),
-    )
+    let picture = ap (λ (b : TalliedPicture). b.picture) made in record {
+      leads = replays_on keep old.picture new.picture before.steps after.steps Place kept.leads
+          (place_step old.picture n ready ∙ sym picture) grown;
+      counted = omega (arith, longer, one, kept.counted);
+      room = λ none. let had = kept.room
+          (sym (place_closing old.picture) ∙ ap (λ (p : Picture). p.closing) (sym picture) ∙ none) in
+          omega (arith, had, same);
+    }
 
 pub close_again : (p : Picture) (last : ℕ) → p.closing ≡ Some last → close p ≡ (last, p)
 unfolding close
@@ -108,9 +104,9 @@ pub close_kept : StepsKeepLimits → (old new : TalliedPicture) (last : ℕ) (be
     → JournalAgrees old before → close old.picture ≡ (last, new.picture) → new.steps ≡ suc old.steps
     → after.steps ≡ before.steps ++ Close ∷ [] → JournalAgrees new after
 close_kept keep old new last before after kept is one grown =
-    let longer = one_longer before.steps after.steps Close grown in (
-      replays_on keep old.picture new.picture before.steps after.steps Close kept.0
-          (close_step old.picture new.picture last is) grown,
-      omega (arith, longer, one, kept.1),
-      λ none. absurd (close_closes old.picture new.picture last is none),
-    )
+    let longer = one_longer before.steps after.steps Close grown in record {
+      leads = replays_on keep old.picture new.picture before.steps after.steps Close kept.leads
+          (close_step old.picture new.picture last is) grown;
+      counted = omega (arith, longer, one, kept.counted);
+      room = λ none. absurd (close_closes old.picture new.picture last is none);
+    }

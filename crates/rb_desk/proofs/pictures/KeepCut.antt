@@ -1,15 +1,13 @@
 -- The invariant of a picture holds after a subscription is made, continues after a cursor or is closed, and after the
 -- sequence is closed.
-use Rattle.std.proofs.Common.{◌≡◌, ℕ, zero, suc, ◌+◌, ◌-◌, ◌<◌, ◌≤◌, ne_eqb, eq-eqb, Bool, true, false, not, ◌&&◌, ◌||◌}
-use Rattle.std.proofs.Common.{◌==◌, cond, ◌⊎◌, inl, inr, List, [], ◌∷◌, ◌++◌, length, Option, Some, None, IfSome}
-use Rattle.std.proofs.Common.{Result, filter, nat_lt, nat_le, slice_get, slice_set, append-nil, refl, sym, ap, ◌∙◌}
-use Rattle.std.proofs.Common.{subst, arith, length-append}
+use Rattle.std.proofs.Common.{◌≡◌, ℕ, zero, suc, ◌+◌, ◌-◌, ◌<◌, ◌≤◌, ne_eqb, eq-eqb, Bool, true, false, not, ◌&&◌, ◌==◌}
+use Rattle.std.proofs.Common.{cond, ◌⊎◌, inl, inr, List, [], ◌∷◌, ◌++◌, length, Option, Some, None, IfSome, filter}
+use Rattle.std.proofs.Common.{nat_le, slice_get, slice_set, append-nil, refl, sym, ap, ◌∙◌, subst, arith, length-append}
 use Rattle.std.specs.List.{AllByRecursion}
-use Rattle.std.proofs.lemmas.Bool.{false≢true, cases_lt, eqb-true, ltb-false, leb-true, leb-false}
+use Rattle.std.proofs.lemmas.Bool.{false≢true, cases_lt, eqb-true, leb-true}
 use Rattle.std.proofs.Math.Dec.{eqb-suc-suc}
 use Rattle.rb_desk.specs.declared.config.ConfigFault.{ConfigFault}
 use Rattle.rb_desk.specs.declared.config.ConfigFault.TheVariants.{Batch}
-use Rattle.rb_desk.specs.declared.refusal.DeskRefusal.{DeskRefusal}
 use Rattle.rb_deliveries.specs.declared.span.Span.{Span}
 use Rattle.rb_deliveries.specs.declared.span.Status.{Status}
 use Rattle.rb_desk.specs.Limits.{Limits}
@@ -17,30 +15,19 @@ use Rattle.rb_deliveries.specs.Spans.{fresh, cut_spans, is_ready, is_out, is_out
 use Rattle.rb_deliveries.specs.Spans.{SpansRise}
 use Rattle.rb_desk.specs.Picture.{Picture, empty_picture}
 use Rattle.rb_deliveries.specs.Picture.{Subscription}
-use Rattle.rb_desk.specs.Calls.{subscribe, subscribed_picture}
+use Rattle.rb_desk.specs.Calls.{subscribe, subscribed_picture, reconnect, reconnected_picture, unsubscribe}
+use Rattle.rb_desk.specs.Calls.{unsubscribed_picture, close, last_number}
 use Rattle.rb_deliveries.specs.Changes.{named, without_subscription}
-use Rattle.rb_desk.specs.Calls.{reconnect, reconnected_picture, reconnected_by, unsubscribe, unsubscribed_picture}
-use Rattle.rb_desk.specs.Calls.{unsubscribed_by, close, last_number}
-use Rattle.rb_desk.specs.IsPicture.{AreInRange, IsInSpan, IsGoodSpan, IsGoodSubscription, how_often}
-use Rattle.rb_desk.specs.IsPicture.{one_if, span_there, stands_there, links_of, IsPicture}
+use Rattle.rb_desk.specs.IsPicture.{AreInRange, IsInSpan, IsGoodSpan, IsGoodSubscription, how_often, one_if, span_there}
+use Rattle.rb_desk.specs.IsPicture.{stands_there, links_of, IsPicture}
 use Rattle.rb_deliveries.proofs.spans.CutLaws.{CutIsFresh, cut_ends, cut_fresh, cut_induction}
 use Rattle.rb_deliveries.proofs.spans.RisingLaws.{cut_rise}
 use Rattle.rb_deliveries.proofs.orders.Line.{all_both, all_then, filter_none}
 use Rattle.rb_deliveries.proofs.subs.KnownLaws.{all_get}
 use Rattle.rb_desk.proofs.pictures.PictureLaws.{count_cons, often_append, often_without_all, often_named, links_none}
 use Rattle.rb_desk.proofs.pictures.PictureLaws.{links_set, links_append, out_set, out_append, all_later, changed_keeps}
-
--- ---- tests
-
--- what holds both ways holds
-pub keep_cut_either : {X : Type 0} (P : X → Type 0) (b : Bool) (x y : X) → (b ≡ true → P x) → (b ≡ false → P y)
-    → P (cond b x y)
-keep_cut_either P true x y h k = h refl
-keep_cut_either P false x y h k = k refl
-
-pub either_way : {X : Type 0} (P : X → Type 0) (b : Bool) (x y : X) → P x → P y → P (cond b x y)
-either_way P true x y h k = h
-either_way P false x y h k = k
+use Rattle.rb_desk.proofs.pictures.PictureLaws.{KeepsPicture, kept_same, NoFloorFalls, floors_set}
+use Rattle.rb_desk.proofs.calls.CallCases.{LeavesPicture, either_way, subscribe_case, reconnect_case, unsubscribe_case}
 
 -- ---- the picture before any call
 
@@ -226,15 +213,29 @@ subscribed_keeps p start k behind room = record {
     none_more true n = omega arith
     none_more false n = omega arith
 
+-- what stands at a place stands there when more is put behind all
+get_front : {A : Type 0} (xs ys : List A) (i : ℕ) (x : A) → slice_get xs i ≡ Some x → slice_get (xs ++ ys) i ≡ Some x
+get_front [] ys i x h = absurd (let none : None ≡ Some x = h in cc)
+get_front (z ∷ xs) ys zero x h = h
+get_front (z ∷ xs) ys (suc i) x h = get_front xs ys i x h
+
+-- a subscription more
+floors_appended : (old new : Picture) (more : List Subscription) → new.subscriptions ≡ old.subscriptions ++ more
+    → NoFloorFalls old new
+floors_appended old new more is i a b h k =
+    let both : Some a ≡ Some b = sym (get_front old.subscriptions more i a h) ∙ ap (λ subs. slice_get subs i) (sym is)
+    ∙ k in
+    let same : a ≡ b = cc in
+    omega (arith, ap (λ (q : Subscription). q.floor) same)
+
 -- whether it is made or refused
-pub keep_cut_subscribe_keeps : (p : Picture) (start : ℕ) → IsPicture p → IsPicture (subscribe p start).1
-unfolding subscribe
-keep_cut_subscribe_keeps p start k =
-    keep_cut_either (λ (x : Result (ℕ × ℕ) DeskRefusal × Picture). IsPicture x.1) (nat_lt p.front start) _ _
-    (λ ahead. k)
-    (λ behind. keep_cut_either (λ (x : Result (ℕ × ℕ) DeskRefusal × Picture). IsPicture x.1)
-    (nat_le 1024 (length p.subscriptions)) _ _ (λ many. k)
-    (λ few. subscribed_keeps p start k (ltb-false _ _ behind) (leb-false _ _ few)))
+pub subscribe_kept : (p : Picture) (start : ℕ) → IsPicture p → KeepsPicture p (subscribe p start).1
+subscribe_kept p start good =
+    subscribe_case (LeavesPicture (KeepsPicture p)) p start (λ why. kept_same p good)
+    (λ behind room. record {
+      picture = subscribed_keeps p start good behind room;
+      floors = floors_appended p (subscribed_picture p start (cut_spans p.limits.batch (suc start) p.front)) _ refl;
+    })
 
 -- ---- a subscription whose spans all go, and that has fresh ones in place of them
 
@@ -292,12 +293,6 @@ replaced_keeps p s link low high q q' k found le own mine rise fresh =
 
 -- ---- behind a cursor
 
--- neither holds
-pub either_false : (a b : Bool) → (a || b) ≡ false → (a ≡ false) × (b ≡ false)
-either_false false false h = (refl, refl)
-either_false false true h = absurd (false≢true (sym h))
-either_false true b h = absurd (false≢true (sym h))
-
 -- one that isn't closed goes on behind a cursor from its floor to what was offered
 pub reconnected_keeps : (p : Picture) (s cursor : ℕ) (q : Subscription) → IsPicture p → slice_get p.subscriptions s
     ≡ Some q → q.closed ≡ false → q.floor ≤ cursor → cursor ≤ q.offered
@@ -338,18 +333,14 @@ reconnected_keeps p s cursor q k found running low high =
     }
 
 -- or doesn't
-pub keep_cut_reconnect_keeps : (p : Picture) (s cursor : ℕ) → IsPicture p → IsPicture (reconnect p s cursor).1
-unfolding reconnect
-keep_cut_reconnect_keeps p s cursor k = by (slice_get p.subscriptions s) refl
-  where
-    by : (o : Option Subscription) → slice_get p.subscriptions s ≡ o → IsPicture (reconnected_by p s cursor o).1
-    by None found = k
-    by (Some q) found =
-        keep_cut_either (λ (x : Result ℕ DeskRefusal × Picture). IsPicture x.1) q.closed _ _ (λ closed. k)
-        (λ running. keep_cut_either (λ (x : Result ℕ DeskRefusal × Picture). IsPicture x.1)
-        (nat_lt cursor q.floor || nat_lt q.offered cursor) _ _ (λ bad. k)
-        (λ fits. let f = either_false (nat_lt cursor q.floor) (nat_lt q.offered cursor) fits in
-        reconnected_keeps p s cursor q k found running (ltb-false _ _ f.0) (ltb-false _ _ f.1)))
+pub reconnect_kept : (p : Picture) (s cursor : ℕ) → IsPicture p → KeepsPicture p (reconnect p s cursor).1
+reconnect_kept p s cursor good =
+    reconnect_case (LeavesPicture (KeepsPicture p)) p s cursor (λ why. kept_same p good)
+    (λ q found running low high. record {
+      picture = reconnected_keeps p s cursor q good found running low high;
+      floors = floors_set p (reconnected_picture p s q cursor (cut_spans p.limits.batch (suc cursor) p.front)) s q _
+          found refl low;
+    })
 
 -- ---- closed
 
@@ -381,17 +372,13 @@ unsubscribed_keeps p s q k found =
     }
 
 -- or isn't
-pub keep_cut_unsubscribe_keeps : (p : Picture) (s link : ℕ) → IsPicture p → IsPicture (unsubscribe p s link).1
-unfolding unsubscribe
-keep_cut_unsubscribe_keeps p s link k = by (slice_get p.subscriptions s) refl
-  where
-    by : (o : Option Subscription) → slice_get p.subscriptions s ≡ o → IsPicture (unsubscribed_by p s link o).1
-    by None found = k
-    by (Some q) found =
-        keep_cut_either (λ (x : Result Unit DeskRefusal × Picture). IsPicture x.1) (not (link == q.link)) _ _
-        (λ stale. k)
-        (λ same. keep_cut_either (λ (x : Result Unit DeskRefusal × Picture). IsPicture x.1) q.closed _ _ (λ closed. k)
-        (λ running. unsubscribed_keeps p s q k found))
+pub unsubscribe_kept : (p : Picture) (s link : ℕ) → IsPicture p → KeepsPicture p (unsubscribe p s link).1
+unsubscribe_kept p s link good =
+    unsubscribe_case (LeavesPicture (KeepsPicture p)) p s link (λ why. kept_same p good)
+    (λ q found running. record {
+      picture = unsubscribed_keeps p s q good found;
+      floors = floors_set p (unsubscribed_picture p s q) s q _ found refl (omega arith);
+    })
 
 -- the sequence is closed where its front is
 pub keep_cut_close_keeps : (p : Picture) → IsPicture p → IsPicture (close p).1

@@ -21,7 +21,7 @@ use Rattle.rb_desk.specs.IsPicture.{IsInSpan, IsGoodSpan, IsGoodSubscription, on
 use Rattle.rb_desk.specs.IsPicture.{stands_there, IsPicture}
 use Rattle.rb_deliveries.proofs.orders.Line.{all_then}
 use Rattle.rb_desk.proofs.pictures.PictureLaws.{all_mapped, count_cons, often_append, often_filter}
-use Rattle.rb_desk.proofs.pictures.KeepCut.{either_way}
+use Rattle.rb_desk.proofs.calls.CallCases.{either_way}
 use Rattle.rb_desk.proofs.pictures.KeepPlace.{links_mapped, out_mapped}
 
 module _ (timeout clock : ℕ) where

@@ -23,7 +23,8 @@ use Rattle.rb_desk.proofs.calls.CallLaws.{may_place}
 use Rattle.rb_deliveries.proofs.orders.Line.{all_both, all_then}
 use Rattle.rb_deliveries.proofs.subs.KnownLaws.{all_get}
 use Rattle.rb_desk.proofs.pictures.PictureLaws.{all_mapped, count_cons, count_append, often_append, out_of}
-use Rattle.rb_desk.proofs.pictures.KeepCut.{keep_cut_either, either_way, one_in_batch}
+use Rattle.rb_desk.proofs.pictures.KeepCut.{one_in_batch}
+use Rattle.rb_desk.proofs.calls.CallCases.{either_case, either_way}
 use Rattle.rb_desk.proofs.pictures.RiseLaws.{rise_reach}
 
 -- ---- the numbers of spans
@@ -68,7 +69,7 @@ floor_takes batch n front later (p ∷ rest) takes = refl
 pub grown_floor : (batch front : ℕ) (spans : List Span)
     → floor_of (grown_spans batch (suc front) spans) (suc front) ≡ floor_of spans front
 grown_floor batch front spans =
-    keep_cut_either (λ xs. floor_of xs (suc front) ≡ floor_of spans front) (last_takes batch (suc front) spans)
+    either_case (λ xs. floor_of xs (suc front) ≡ floor_of spans front) (last_takes batch (suc front) spans)
     (last_with (suc front) spans) (spans ++ fresh (suc front) (suc front) ∷ [])
     (λ takes. floor_with (suc front) (suc front) spans ∙ floor_takes batch (suc front) front (suc front) spans takes)
     (λ full. floor_more front spans)
@@ -100,7 +101,7 @@ next_more n (p ∷ rest) = inr (next_more n rest)
 pub grown_in : (batch low front n : ℕ) (spans : List Span) → SpansRise low spans front → n ≤ suc front
     → (n ≤ front → IsInSpan n spans) → IsInSpan n (grown_spans batch (suc front) spans)
 grown_in batch low front n spans j le was =
-    keep_cut_either (IsInSpan n) (last_takes batch (suc front) spans) (last_with (suc front) spans)
+    either_case (IsInSpan n) (last_takes batch (suc front) spans) (last_with (suc front) spans)
     (spans ++ fresh (suc front) (suc front) ∷ []) (λ takes. longer takes (cases_lt front n))
     (λ full. more (cases_lt front n))
   where
@@ -145,7 +146,7 @@ pub grown_good : (batch offered next low front : ℕ) (spans : List Span) → 1 
     → AllByRecursion (IsGoodSpan batch offered next) spans
     → AllByRecursion (IsGoodSpan batch offered next) (grown_spans batch (suc front) spans)
 grown_good batch offered next low front spans one j g =
-    keep_cut_either (AllByRecursion (IsGoodSpan batch offered next)) (last_takes batch (suc front) spans)
+    either_case (AllByRecursion (IsGoodSpan batch offered next)) (last_takes batch (suc front) spans)
     (last_with (suc front) spans) (spans ++ fresh (suc front) (suc front) ∷ [])
     (λ takes. good_with batch offered next low front spans takes j g)
     (λ full. all_both (IsGoodSpan batch offered next) spans (fresh (suc front) (suc front) ∷ []) g
@@ -332,7 +333,7 @@ pub grows_good : (p : Picture) (q : Subscription) → 1 ≤ p.limits.batch → I
     → IsGoodSubscription (place p) (grown_subscription p.limits.batch (suc p.front) q)
 unfolding place
 grows_good p q one g =
-    keep_cut_either (IsGoodSubscription (place p)) q.closed q
+    either_case (IsGoodSubscription (place p)) q.closed q
     (record q { spans = grown_spans p.limits.batch (suc p.front) q.spans })
     (λ is. record {
       begins = g.begins;

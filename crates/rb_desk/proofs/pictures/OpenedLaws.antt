@@ -1,18 +1,18 @@
 -- Spans that rise, one of which is opened: each of its numbers is a span in its place.
 use Rattle.std.proofs.Common.{◌≡◌, ℕ, zero, suc, ◌+◌, ◌-◌, ◌<◌, ◌≤◌, ◌⊎◌, inl, inr, Bool, true, false, cond, ◌==◌, List}
-use Rattle.std.proofs.Common.{[], ◌∷◌, ◌++◌, length, Some, None, filter, eq-eqb, ne_eqb, eqb-true, refl, sym, ap}
-use Rattle.std.proofs.Common.{◌∙◌, subst, arith}
+use Rattle.std.proofs.Common.{[], ◌∷◌, ◌++◌, length, Some, None, filter, eq-eqb, ne_eqb, eqb-true, refl, sym, ap, ◌∙◌}
+use Rattle.std.proofs.Common.{subst, arith}
 use Rattle.std.specs.List.{AllByRecursion}
 use Rattle.std.proofs.lemmas.Bool.{cases_lt, cases_eq}
 use Rattle.rb_deliveries.specs.declared.span.Span.{Span}
 use Rattle.rb_deliveries.specs.declared.span.Status.{Status}
 use Rattle.rb_deliveries.specs.declared.span.Status.TheVariants.{Ready}
-use Rattle.rb_deliveries.specs.Spans.{beginning, floor_of, opened_spans, single_span, singles, span_length}
-use Rattle.rb_deliveries.specs.Spans.{SpansRise}
+use Rattle.rb_deliveries.specs.Spans.{beginning, floor_of, opened_spans, single_span, singles, span_length, SpansRise}
 use Rattle.rb_desk.specs.IsPicture.{IsInSpan, one_if, span_there}
 use Rattle.rb_desk.proofs.pictures.PictureLaws.{count_cons, count_append}
 use Rattle.rb_deliveries.proofs.spans.RisingLaws.{rise_lower}
-use Rattle.rb_desk.proofs.pictures.RiseLaws.{rise_begins, none_begins, all_spans_found}
+use Rattle.rb_desk.proofs.pictures.RiseLaws.{rise_begins, none_begins, all_spans_found, ChangesNoLater}
+use Rattle.rb_desk.proofs.pictures.RiseLaws.{changes_no_later}
 
 -- ---- numbers one after another, each a span
 
@@ -123,12 +123,9 @@ singles_begin k n (suc count) rest = by (cases_eq n k) (singles_begin k (suc n) 
 -- ---- one is opened
 
 -- none is opened where none begins with this number
-opened_none : (first low high : ℕ) (spans : List Span) → SpansRise low spans high → first < low
-    → opened_spans first spans ≡ spans
-opened_none first low high [] h less = refl
-opened_none first low high (p ∷ rest) h less =
-    (λ i. cond (ne_eqb p.first first (omega (arith, h.0, less)) i) (singles p.first (span_length p)) (p ∷ [])
-    ++ opened_none first (suc p.last) high rest h.2 (omega (arith, h.0, h.1, less)) i)
+opened_none : ChangesNoLater opened_spans
+opened_none = changes_no_later opened_spans (λ _. refl) (λ first p rest other.
+    ap (λ b. cond b (singles p.first (span_length p)) (p ∷ []) ++ opened_spans first rest) other)
 
 -- what holds where the first span is opened, and goes on over a span before it, holds where one is opened
 opened_induction : (P : ℕ → List Span → List Span → Type 0) (high : ℕ) (span : Span)

@@ -270,6 +270,14 @@ floors_same old new same i a b h k =
     let is : b ≡ a = cc in
     omega (arith, ap (λ (q : Subscription). q.floor) is)
 
+-- what a call keeps: what it leaves is a picture, in which no floor fell
+pub record KeepsPicture (old new : Picture) : Type 0 where
+  pub picture : IsPicture new
+  pub floors : NoFloorFalls old new
+
+pub kept_same : (p : Picture) → IsPicture p → KeepsPicture p p
+kept_same p good = record { picture = good; floors = floors_same p p refl }
+
 -- one subscription changes, and its floor doesn't fall
 pub floors_set : (old new : Picture) (s : ℕ) (q r : Subscription) → slice_get old.subscriptions s ≡ Some q
     → new.subscriptions ≡ slice_set old.subscriptions s r → q.floor ≤ r.floor → NoFloorFalls old new

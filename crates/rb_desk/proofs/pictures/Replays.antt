@@ -1,69 +1,87 @@
 -- Calls one after another: each preserves the invariant of a picture, links and deliveries' numbers rise strictly, and
 -- the front and the floors do not fall.
-use Rattle.std.proofs.Common.{◌≡◌, ℕ, zero, suc, max, ◌+◌, ◌<◌, ◌≤◌, true, false, not, ◌||◌, ◌==◌, ◌⊎◌, inl, inr, List}
-use Rattle.std.proofs.Common.{[], ◌∷◌, ◌++◌, length, map, Option, Some, None, option_map, Result, Ok, Err, find, nat_lt}
-use Rattle.std.proofs.Common.{nat_le, slice_get, slice_set, refl, sym, ap, ◌∙◌, arith, length-append}
+use Rattle.std.proofs.Common.{◌≡◌, ℕ, zero, suc, ◌+◌, ◌<◌, ◌≤◌, ◌⊎◌, inl, inr, List, [], ◌∷◌, length, map, Option, Some}
+use Rattle.std.proofs.Common.{None, option_map, Result, Ok, Err, slice_get, refl, sym, ap, ◌∙◌, arith}
 use Rattle.std.specs.List.{cons_option}
-use Rattle.std.proofs.lemmas.Bool.{leb-false, ltb-false, cases_lt}
-use Rattle.std.proofs.lemmas.List.{length-map, length-set}
+use Rattle.std.proofs.lemmas.Bool.{cases_lt}
 use Rattle.std.proofs.lemmas.Option.{slice_get-map, slice_get_cases, slice_get_within}
-use Rattle.rb_desk.proofs.pictures.PictureLaws.{NoFloorFalls}
-use Rattle.rb_desk.specs.declared.delivery.Delivery.{Delivery}
+use Rattle.rb_desk.proofs.pictures.PictureLaws.{NoFloorFalls, floors_same, KeepsPicture, kept_same}
 use Rattle.rb_desk.specs.declared.refusal.DeskRefusal.{DeskRefusal}
-use Rattle.rb_deliveries.specs.declared.span.Span.{Span}
 use Rattle.rb_desk.specs.declared.step.Step.{Step}
 use Rattle.rb_desk.specs.declared.step.Step.TheVariants.{Subscribe, Take, TakeAny, Ack, Nack, Expire, Reconnect}
 use Rattle.rb_desk.specs.declared.step.Step.TheVariants.{Unsubscribe, Place, Close, NackOpened}
 use Rattle.rb_desk.specs.Limits.{Limits}
-use Rattle.rb_deliveries.specs.Spans.{cut_spans, first_ready, out_as, beginning, grown_spans}
+use Rattle.rb_deliveries.specs.Spans.{grown_spans}
 use Rattle.rb_desk.specs.Picture.{Picture, empty_picture}
 use Rattle.rb_deliveries.specs.Picture.{Subscription}
-use Rattle.rb_desk.specs.Calls.{subscribe, subscribed_picture, take, delivered_from, delivered_span, take_any}
-use Rattle.rb_deliveries.specs.Changes.{has_room}
-use Rattle.rb_desk.specs.Calls.{delivered_any_from, delivered_any_of, delivered_any_span, has_window_room, ack, acked_by}
-use Rattle.rb_desk.specs.Calls.{acked_span, nack, nacked_by, nacked_span, nack_opened, opened_by, opened_span}
-use Rattle.rb_desk.specs.Calls.{expire, reconnect, reconnected_picture}
-use Rattle.rb_desk.specs.Calls.{reconnected_by, unsubscribe, unsubscribed_picture, unsubscribed_by, prepare}
-use Rattle.rb_deliveries.specs.Changes.{goes_back}
-use Rattle.rb_desk.specs.Calls.{place, close}
+use Rattle.rb_desk.specs.Calls.{subscribe, take, take_any, ack, nack, nack_opened, expire, reconnect, unsubscribe}
+use Rattle.rb_desk.specs.Calls.{prepare, place, close}
 use Rattle.rb_deliveries.specs.Changes.{grown_subscription}
 use Rattle.rb_desk.specs.IsPicture.{AreInRange, IsPicture}
 use Rattle.rb_desk.specs.Steps.{links_given, numbers_given, RisesAbove, FloorsRise, placed_if, after_step, replayed}
-use Rattle.rb_desk.specs.Steps.{replay, second_of, link_of, delivery_number, link_given, number_given, made_of}
-use Rattle.rb_desk.specs.Steps.{subscriptions_made, KeepsFrame}
-use Rattle.rb_desk.proofs.pictures.KeepHand.{keep_hand_take_keeps, keep_hand_take_any_keeps, floors_rise_take}
-use Rattle.rb_desk.proofs.pictures.KeepHand.{floors_rise_take_any}
-use Rattle.rb_desk.proofs.pictures.KeepSettle.{keep_settle_ack_keeps, keep_settle_nack_keeps, floors_rise_ack}
-use Rattle.rb_desk.proofs.pictures.KeepSettle.{floors_rise_nack}
-use Rattle.rb_desk.proofs.pictures.KeepOpen.{keep_open_keeps, floors_rise_nack_opened}
-use Rattle.rb_desk.proofs.pictures.PictureLaws.{floors_same, floors_set}
-use Rattle.rb_desk.proofs.pictures.KeepCut.{keep_cut_either, either_way, either_false, opening_keeps}
-use Rattle.rb_desk.proofs.pictures.KeepCut.{keep_cut_subscribe_keeps, keep_cut_reconnect_keeps}
-use Rattle.rb_desk.proofs.pictures.KeepCut.{keep_cut_unsubscribe_keeps, keep_cut_close_keeps}
+use Rattle.rb_desk.specs.Steps.{replay, link_given, number_given, made_of, subscriptions_made, KeepsFrame}
+use Rattle.rb_desk.proofs.pictures.KeepHand.{take_kept, take_any_kept}
+use Rattle.rb_desk.proofs.pictures.KeepSettle.{ack_kept, nack_kept}
+use Rattle.rb_desk.proofs.pictures.KeepOpen.{nack_opened_kept}
+use Rattle.rb_desk.proofs.pictures.KeepCut.{opening_keeps, subscribe_kept, reconnect_kept, unsubscribe_kept}
+use Rattle.rb_desk.proofs.pictures.KeepCut.{keep_cut_close_keeps}
 use Rattle.rb_desk.proofs.pictures.KeepPlace.{keep_place_keeps}
 use Rattle.rb_desk.proofs.pictures.KeepExpire.{keep_expire_keeps}
+use Rattle.rb_desk.proofs.calls.CallCases.{either_way, subscribe_case}
+use Rattle.rb_desk.proofs.pictures.CallRises.{ReplaysGoesOn, ReplaysRises, subscribe_rises, take_rises, take_any_rises}
+use Rattle.rb_desk.proofs.pictures.CallRises.{ack_rises, nack_rises, nack_opened_rises, expire_rises, reconnect_rises}
+use Rattle.rb_desk.proofs.pictures.CallRises.{unsubscribe_rises, place_rises, close_rises, after_rises}
 
 -- ---- pictures
 
--- a placement keeps it, whether it is made or not
-placed_if_keeps : (p : Picture) (r : Result ℕ DeskRefusal) → IsPicture p → prepare p ≡ r → IsPicture (placed_if p r)
-placed_if_keeps p (Ok n) k is = keep_place_keeps p n k is
-placed_if_keeps p (Err why) k is = k
+-- each becomes another with the same floor
+floors_mapped : (old new : Picture) (f : Subscription → Subscription) → new.subscriptions ≡ map f old.subscriptions
+    → ((q : Subscription) → (f q).floor ≡ q.floor) → NoFloorFalls old new
+floors_mapped old new f is keeps i a b h k =
+    let both : Some (f a) ≡ Some b = sym (ap (option_map f) h) ∙ sym (slice_get-map f old.subscriptions i)
+    ∙ ap (λ subs. slice_get subs i) (sym is) ∙ k in
+    let same : f a ≡ b = cc in
+    omega (arith, keeps a, ap (λ (q : Subscription). q.floor) same)
 
--- each step leaves a picture
-pub after_keeps : (p : Picture) (step : Step) → IsPicture p → IsPicture (after_step p step)
+place_floors : (p : Picture) → NoFloorFalls p (place p)
+unfolding place
+place_floors p =
+    floors_mapped p (place p) (grown_subscription p.limits.batch (suc p.front)) refl
+    (λ q. either_way (λ (x : Subscription). x.floor ≡ q.floor) q.closed q
+    (record q { spans = grown_spans p.limits.batch (suc p.front) q.spans }) refl refl)
+
+-- a placement, whether it is made or not
+place_step_kept : (p : Picture) (r : Result ℕ DeskRefusal) → IsPicture p → prepare p ≡ r
+    → KeepsPicture p (placed_if p r)
+place_step_kept p (Ok n) k is = record { picture = keep_place_keeps p n k is; floors = place_floors p }
+place_step_kept p (Err why) k is = kept_same p k
+
+close_step_kept : (p : Picture) → IsPicture p → KeepsPicture p (close p).1
+unfolding close
+close_step_kept p k = record { picture = keep_cut_close_keeps p k; floors = floors_same p (close p).1 refl }
+
+expire_step_kept : (p : Picture) (now : ℕ) → IsPicture p → KeepsPicture p (expire p now).1
+unfolding expire
+expire_step_kept p now k =
+    record { picture = keep_expire_keeps p now k; floors = floors_mapped p (expire p now).1 _ refl (λ q. refl) }
+
+-- each step leaves a picture, and no floor falls
+each_step_kept : (p : Picture) (step : Step) → IsPicture p → KeepsPicture p (after_step p step)
 unfolding after_step
-after_keeps p (Subscribe start) k = keep_cut_subscribe_keeps p start k
-after_keeps p (Take s link cursor now) k = keep_hand_take_keeps p s link cursor now k
-after_keeps p (TakeAny now) k = keep_hand_take_any_keeps p now k
-after_keeps p (Ack s link delivery cursor) k = keep_settle_ack_keeps p s link delivery cursor k
-after_keeps p (Nack s link delivery) k = keep_settle_nack_keeps p s link delivery k
-after_keeps p (NackOpened s link delivery) k = keep_open_keeps p s link delivery k
-after_keeps p (Expire now) k = keep_expire_keeps p now k
-after_keeps p (Reconnect s cursor) k = keep_cut_reconnect_keeps p s cursor k
-after_keeps p (Unsubscribe s link) k = keep_cut_unsubscribe_keeps p s link k
-after_keeps p Place k = placed_if_keeps p (prepare p) k refl
-after_keeps p Close k = keep_cut_close_keeps p k
+each_step_kept p (Subscribe start) k = subscribe_kept p start k
+each_step_kept p (Take s link cursor now) k = take_kept p s link cursor now k
+each_step_kept p (TakeAny now) k = take_any_kept p now k
+each_step_kept p (Ack s link delivery cursor) k = ack_kept p s link delivery cursor k
+each_step_kept p (Nack s link delivery) k = nack_kept p s link delivery k
+each_step_kept p (NackOpened s link delivery) k = nack_opened_kept p s link delivery k
+each_step_kept p (Expire now) k = expire_step_kept p now k
+each_step_kept p (Reconnect s cursor) k = reconnect_kept p s cursor k
+each_step_kept p (Unsubscribe s link) k = unsubscribe_kept p s link k
+each_step_kept p Place k = place_step_kept p (prepare p) k refl
+each_step_kept p Close k = close_step_kept p k
+
+pub after_keeps : (p : Picture) (step : Step) → IsPicture p → IsPicture (after_step p step)
+after_keeps p step k = (each_step_kept p step k).picture
 
 -- and so does a list of them
 pub replayed_keeps : (p : Picture) (steps : List Step) → IsPicture p → IsPicture (replayed p steps)
@@ -74,298 +92,7 @@ replayed_keeps p (step ∷ steps) k = replayed_keeps (after_step p step) steps (
 pub replay_keeps : (limits : Limits) (steps : List Step) → AreInRange limits → IsPicture (replay limits steps)
 replay_keeps limits steps h = replayed_keeps (empty_picture limits) steps (opening_keeps limits h)
 
--- ---- the front, links and deliveries' numbers
-
--- where a number was given it was the next one, and it is below the next one then; else the next one isn't lower
-abbrev pub ReplaysGoesOn : ℕ → ℕ → Option ℕ → Type 0
-ReplaysGoesOn next next' None = next ≤ next'
-ReplaysGoesOn next next' (Some n) = (n ≡ next) × (next < next')
-
--- a call that gave this link and this delivery's number, or none, made so many subscriptions and left this closing number:
--- the limits stay, the front doesn't fall, no subscription goes, and both go on
-pub record ReplaysRises (old new : Picture) (link number : Option ℕ) (made : ℕ) (closed : Option ℕ) : Type 0 where
-  pub limits : new.limits ≡ old.limits
-  pub closing : new.closing ≡ closed
-  pub front : old.front ≤ new.front
-  pub count : length new.subscriptions ≡ length old.subscriptions + made
-  pub links : ReplaysGoesOn old.next_link new.next_link link
-  pub numbers : ReplaysGoesOn old.next_delivery new.next_delivery number
-
--- a refused call
-rises_same : (p : Picture) → ReplaysRises p p None None 0 p.closing
-rises_same p = record {
-  limits = refl;
-  closing = refl;
-  front = omega arith;
-  count = omega arith;
-  links = omega arith;
-  numbers = omega arith;
-}
-
--- one subscription changes
-same_length : (p : Picture) (s : ℕ) (q : Subscription)
-    → length (slice_set p.subscriptions s q) ≡ length p.subscriptions + 0
-same_length p s q = omega (arith, length-set p.subscriptions s q)
-
--- each call
-subscribe_rises : (p : Picture) (start : ℕ)
-    → ReplaysRises p (subscribe p start).1 (second_of (subscribe p start).0) None (made_of (subscribe p start).0) p.closing
-unfolding subscribe
-subscribe_rises p start =
-    either_way (λ (x : Result (ℕ × ℕ) DeskRefusal × Picture). ReplaysRises p x.1 (second_of x.0) None (made_of x.0) p.closing)
-    (nat_lt p.front start) _ _ (rises_same p)
-    (either_way (λ (x : Result (ℕ × ℕ) DeskRefusal × Picture). ReplaysRises p x.1 (second_of x.0) None (made_of x.0) p.closing)
-    (nat_le 1024 (length p.subscriptions)) _ _ (rises_same p)
-    (record {
-      limits = refl;
-      closing = refl;
-      front = omega arith;
-      count = omega (arith, length-append p.subscriptions (q ∷ []));
-      links = (refl, omega arith);
-      numbers = omega arith;
-    }))
-  where
-    q : Subscription
-    q = record {
-      start = start;
-      floor = start;
-      offered = start;
-      link = p.next_link;
-      closed = false;
-      spans = cut_spans p.limits.batch (suc start) p.front;
-    }
-
--- a span is handed over
-abbrev TakeRises : Picture → Result Delivery DeskRefusal × Picture → Type 0
-TakeRises p x = ReplaysRises p x.1 None (delivery_number x.0) 0 p.closing
-
-taken_rises : (p : Picture) (s cursor now : ℕ) (q : Subscription) (o : Option Span)
-    → TakeRises p (delivered_span p s q cursor now o)
-taken_rises p s cursor now q None = rises_same p
-taken_rises p s cursor now q (Some span) =
-    record {
-      limits = refl;
-      closing = refl;
-      front = omega arith;
-      count = same_length p s _;
-      links = omega arith;
-      numbers = (refl, omega arith);
-    }
-
-take_rises : (p : Picture) (s link cursor now : ℕ) → TakeRises p (take p s link cursor now)
-unfolding take
-take_rises p s link cursor now = by (slice_get p.subscriptions s)
-  where
-    by : (o : Option Subscription) → TakeRises p (delivered_from p s link cursor now o)
-    by None = rises_same p
-    by (Some q) =
-        either_way (TakeRises p) (not (link == q.link)) _ _ (rises_same p)
-        (either_way (TakeRises p) q.closed _ _ (rises_same p)
-        (either_way (TakeRises p) (not (has_room p.limits.window q)) _ _ (rises_same p)
-        (taken_rises p s cursor now q (first_ready q.spans))))
-
-any_span_rises : (p : Picture) (s now : ℕ) (q : Subscription) (o : Option Span)
-    → TakeRises p (delivered_any_span p s q now o)
-any_span_rises p s now q None = rises_same p
-any_span_rises p s now q (Some span) =
-    record {
-      limits = refl;
-      closing = refl;
-      front = omega arith;
-      count = same_length p s _;
-      links = omega arith;
-      numbers = (refl, omega arith);
-    }
-
-any_of_rises : (p : Picture) (s first now : ℕ) (o : Option Subscription)
-    → TakeRises p (delivered_any_of p s first now o)
-any_of_rises p s first now None = rises_same p
-any_of_rises p s first now (Some q) = any_span_rises p s now q (beginning first q.spans)
-
-take_any_rises : (p : Picture) (now : ℕ) → TakeRises p (take_any p now)
-unfolding take_any
-take_any_rises p now = by (find (has_window_room p) p.ready)
-  where
-    by : (o : Option (ℕ × ℕ)) → TakeRises p (delivered_any_from p now o)
-    by None = rises_same p
-    by (Some at) = any_of_rises p at.0 at.1 now (slice_get p.subscriptions at.0)
-
-ack_rises : (p : Picture) (s link delivery cursor : ℕ) → ReplaysRises p (ack p s link delivery cursor).1 None None 0 p.closing
-unfolding ack
-ack_rises p s link delivery cursor = by (slice_get p.subscriptions s)
-  where
-    of_span : (q : Subscription) (o : Option Span) → ReplaysRises p (acked_span p s q cursor o).1 None None 0 p.closing
-    of_span q None = rises_same p
-    of_span q (Some span) = either_way (λ (x : Result ℕ DeskRefusal × Picture). ReplaysRises p x.1 None None 0 p.closing)
-        (nat_lt cursor span.last) _ _ (rises_same p)
-        (record {
-          limits = refl;
-          closing = refl;
-          front = omega arith;
-          count = same_length p s _;
-          links = omega arith;
-          numbers = omega arith;
-        })
-
-    by : (o : Option Subscription) → ReplaysRises p (acked_by p s link delivery cursor o).1 None None 0 p.closing
-    by None = rises_same p
-    by (Some q) = either_way (λ (x : Result ℕ DeskRefusal × Picture). ReplaysRises p x.1 None None 0 p.closing)
-        (not (link == q.link)) _ _ (rises_same p) (of_span q (out_as delivery q.spans))
-
-nack_rises : (p : Picture) (s link delivery : ℕ) → ReplaysRises p (nack p s link delivery).1 None None 0 p.closing
-unfolding nack
-nack_rises p s link delivery = by (slice_get p.subscriptions s)
-  where
-    of_span : (q : Subscription) (o : Option Span) → ReplaysRises p (nacked_span p s q o).1 None None 0 p.closing
-    of_span q None = rises_same p
-    of_span q (Some span) = record {
-      limits = refl;
-      closing = refl;
-      front = omega arith;
-      count = same_length p s _;
-      links = omega arith;
-      numbers = omega arith;
-    }
-
-    by : (o : Option Subscription) → ReplaysRises p (nacked_by p s link delivery o).1 None None 0 p.closing
-    by None = rises_same p
-    by (Some q) = either_way (λ (x : Result Unit DeskRefusal × Picture). ReplaysRises p x.1 None None 0 p.closing)
-        (not (link == q.link)) _ _ (rises_same p) (of_span q (out_as delivery q.spans))
-
-nack_opened_rises : (p : Picture) (s link delivery : ℕ)
-    → ReplaysRises p (nack_opened p s link delivery).1 None None 0 p.closing
-unfolding nack_opened
-nack_opened_rises p s link delivery = by (slice_get p.subscriptions s)
-  where
-    of_span : (q : Subscription) (o : Option Span) → ReplaysRises p (opened_span p s q o).1 None None 0 p.closing
-    of_span q None = rises_same p
-    of_span q (Some span) = record {
-      limits = refl;
-      closing = refl;
-      front = omega arith;
-      count = same_length p s _;
-      links = omega arith;
-      numbers = omega arith;
-    }
-
-    by : (o : Option Subscription) → ReplaysRises p (opened_by p s link delivery o).1 None None 0 p.closing
-    by None = rises_same p
-    by (Some q) = either_way (λ (x : Result ℕ DeskRefusal × Picture). ReplaysRises p x.1 None None 0 p.closing)
-        (not (link == q.link)) _ _ (rises_same p) (of_span q (out_as delivery q.spans))
-
-expire_rises : (p : Picture) (now : ℕ) → ReplaysRises p (expire p now).1 None None 0 p.closing
-unfolding expire
-expire_rises p now =
-    record {
-      limits = refl;
-      closing = refl;
-      front = omega arith;
-      count = omega (arith, length-map p.subscriptions (goes_back p.limits.timeout (max p.clock now)));
-      links =
-          omega arith;
-      numbers = omega arith;
-    }
-
-reconnect_rises : (p : Picture) (s cursor : ℕ)
-    → ReplaysRises p (reconnect p s cursor).1 (link_of (reconnect p s cursor).0) None 0 p.closing
-unfolding reconnect
-reconnect_rises p s cursor = by (slice_get p.subscriptions s)
-  where
-    by : (o : Option Subscription)
-        → ReplaysRises p (reconnected_by p s cursor o).1 (link_of (reconnected_by p s cursor o).0) None 0 p.closing
-    by None = rises_same p
-    by (Some q) =
-        either_way (λ (x : Result ℕ DeskRefusal × Picture). ReplaysRises p x.1 (link_of x.0) None 0 p.closing) q.closed _ _
-        (rises_same p)
-        (either_way (λ (x : Result ℕ DeskRefusal × Picture). ReplaysRises p x.1 (link_of x.0) None 0 p.closing)
-        (nat_lt cursor q.floor || nat_lt q.offered cursor) _ _ (rises_same p)
-        (record {
-          limits = refl;
-          closing = refl;
-          front = omega arith;
-          count = same_length p s _;
-          links = (refl, omega arith);
-          numbers = omega arith;
-        }))
-
-unsubscribe_rises : (p : Picture) (s link : ℕ) → ReplaysRises p (unsubscribe p s link).1 None None 0 p.closing
-unfolding unsubscribe
-unsubscribe_rises p s link = by (slice_get p.subscriptions s)
-  where
-    by : (o : Option Subscription) → ReplaysRises p (unsubscribed_by p s link o).1 None None 0 p.closing
-    by None = rises_same p
-    by (Some q) =
-        either_way (λ (x : Result Unit DeskRefusal × Picture). ReplaysRises p x.1 None None 0 p.closing) (not (link == q.link)) _ _
-        (rises_same p)
-        (either_way (λ (x : Result Unit DeskRefusal × Picture). ReplaysRises p x.1 None None 0 p.closing) q.closed _ _
-        (rises_same p)
-        (record {
-          limits = refl;
-          closing = refl;
-          front = omega arith;
-          count = same_length p s _;
-          links = omega arith;
-          numbers = omega arith;
-        }))
-
-place_rises : (p : Picture) → ReplaysRises p (place p) None None 0 p.closing
-unfolding place
-place_rises p =
-    record {
-      limits = refl;
-      closing = refl;
-      front = omega arith;
-      count = omega (arith, length-map p.subscriptions (grown_subscription p.limits.batch (suc p.front)));
-      links =
-          omega arith;
-      numbers = omega arith;
-    }
-
-close_rises : (p : Picture) → ReplaysRises p (close p).1 None None 0 (close p).1.closing
-unfolding close
-close_rises p = record {
-  limits = refl;
-  closing = refl;
-  front = omega arith;
-  count = omega arith;
-  links = omega arith;
-  numbers = omega arith;
-}
-
-placed_if_rises : (p : Picture) (r : Result ℕ DeskRefusal) → ReplaysRises p (placed_if p r) None None 0 p.closing
-placed_if_rises p (Ok n) = place_rises p
-placed_if_rises p (Err why) = rises_same p
-
--- the closing number after a step
-abbrev pub closing_after : Picture → Step → Option ℕ
-closing_after p (Subscribe start) = p.closing
-closing_after p (Take s link cursor now) = p.closing
-closing_after p (TakeAny now) = p.closing
-closing_after p (Ack s link delivery cursor) = p.closing
-closing_after p (Nack s link delivery) = p.closing
-closing_after p (NackOpened s link delivery) = p.closing
-closing_after p (Expire now) = p.closing
-closing_after p (Reconnect s cursor) = p.closing
-closing_after p (Unsubscribe s link) = p.closing
-closing_after p Place = p.closing
-closing_after p Close = (close p).1.closing
-
--- each step
-pub after_rises : (p : Picture) (step : Step)
-    → ReplaysRises p (after_step p step) (link_given p step) (number_given p step) (subscriptions_made p step)
-    (closing_after p step)
-unfolding after_step
-after_rises p (Subscribe start) = subscribe_rises p start
-after_rises p (Take s link cursor now) = take_rises p s link cursor now
-after_rises p (TakeAny now) = take_any_rises p now
-after_rises p (Ack s link delivery cursor) = ack_rises p s link delivery cursor
-after_rises p (Nack s link delivery) = nack_rises p s link delivery
-after_rises p (NackOpened s link delivery) = nack_opened_rises p s link delivery
-after_rises p (Expire now) = expire_rises p now
-after_rises p (Reconnect s cursor) = reconnect_rises p s cursor
-after_rises p (Unsubscribe s link) = unsubscribe_rises p s link
-after_rises p Place = placed_if_rises p (prepare p)
-after_rises p Close = close_rises p
+-- ---- the front and the frame
 
 -- the front doesn't fall, at a step and at a list of them
 pub front_rises : (p : Picture) (step : Step) → p.front ≤ (after_step p step).front
@@ -431,16 +158,27 @@ pub close_frame : (p : Picture) → ((close p).1.limits ≡ p.limits)
     × (length (close p).1.subscriptions ≡ length p.subscriptions)
 close_frame p = ((close_rises p).limits, omega (arith, (close_rises p).count))
 
+pub ruleset frames = (
+  subscribe_frame,
+  take_frame,
+  take_any_frame,
+  ack_frame,
+  nack_frame,
+  nack_opened_frame,
+  expire_frame,
+  reconnect_frame,
+  unsubscribe_frame,
+  place_frame,
+  close_frame,
+)
+
 -- one that is made is the last, and there is room for it
 pub subscribe_fits : (p : Picture) (start s link : ℕ) → (subscribe p start).0 ≡ Ok (s, link)
     → (s ≡ length p.subscriptions) × (length p.subscriptions < 1024) × (made_of (subscribe p start).0 ≡ 1)
-unfolding subscribe
 subscribe_fits p start s link =
-    either_way Fits (nat_lt p.front start) _ _ (λ ok. absurd (let no : Err _ ≡ Ok (s, link) = ok in cc))
-    (keep_cut_either Fits (nat_le 1024 (length p.subscriptions)) _ _
-    (λ many ok. absurd (let no : Err _ ≡ Ok (s, link) = ok in cc))
-    (λ few ok. let same : Ok (length p.subscriptions, p.next_link) ≡ Ok (s, link) = ok in
-    (ap (λ r. first_made r) (sym same), leb-false _ _ few, refl)))
+    subscribe_case Fits p start (λ why ok. absurd (let no : Err _ ≡ Ok (s, link) = ok in cc))
+    (λ behind room ok. let same : Ok (length p.subscriptions, p.next_link) ≡ Ok (s, link) = ok in
+    (ap (λ r. first_made r) (sym same), room, refl))
   where
     first_made : Result (ℕ × ℕ) DeskRefusal → ℕ
     first_made (Ok pair) = pair.0
@@ -475,94 +213,7 @@ numbers_rise_all p (step ∷ steps) =
     (numbers_given (after_step p step) steps) (after_rises p step).numbers
     (numbers_rise_all (after_step p step) steps)
 
--- ---- floors
-
--- what stands at a place stands there when more is put behind all
-get_front : {A : Type 0} (xs ys : List A) (i : ℕ) (x : A) → slice_get xs i ≡ Some x → slice_get (xs ++ ys) i ≡ Some x
-get_front [] ys i x h = absurd (let none : None ≡ Some x = h in cc)
-get_front (z ∷ xs) ys zero x h = h
-get_front (z ∷ xs) ys (suc i) x h = get_front xs ys i x h
-
--- a subscription more
-floors_appended : (old new : Picture) (more : List Subscription) → new.subscriptions ≡ old.subscriptions ++ more
-    → NoFloorFalls old new
-floors_appended old new more is i a b h k =
-    let both : Some a ≡ Some b = sym (get_front old.subscriptions more i a h) ∙ ap (λ subs. slice_get subs i) (sym is)
-    ∙ k in
-    let same : a ≡ b = cc in
-    omega (arith, ap (λ (q : Subscription). q.floor) same)
-
--- each becomes another with the same floor
-floors_mapped : (old new : Picture) (f : Subscription → Subscription) → new.subscriptions ≡ map f old.subscriptions
-    → ((q : Subscription) → (f q).floor ≡ q.floor) → NoFloorFalls old new
-floors_mapped old new f is keeps i a b h k =
-    let both : Some (f a) ≡ Some b = sym (ap (option_map f) h) ∙ sym (slice_get-map f old.subscriptions i)
-    ∙ ap (λ subs. slice_get subs i) (sym is) ∙ k in
-    let same : f a ≡ b = cc in
-    omega (arith, keeps a, ap (λ (q : Subscription). q.floor) same)
-
--- a new one changes no floor
-pub subscribe_floors : (p : Picture) (start : ℕ) → NoFloorFalls p (subscribe p start).1
-unfolding subscribe
-subscribe_floors p start =
-    either_way (λ (x : Result (ℕ × ℕ) DeskRefusal × Picture). NoFloorFalls p x.1) (nat_lt p.front start) _ _
-    (floors_same p p refl)
-    (either_way (λ (x : Result (ℕ × ℕ) DeskRefusal × Picture). NoFloorFalls p x.1)
-    (nat_le 1024 (length p.subscriptions))
-    _ _ (floors_same p p refl)
-    (floors_appended p (subscribed_picture p start (cut_spans p.limits.batch (suc start) p.front)) _ refl))
-
--- one goes on behind a cursor that isn't behind its floor
-pub reconnect_floors : (p : Picture) (s cursor : ℕ) → NoFloorFalls p (reconnect p s cursor).1
-unfolding reconnect
-reconnect_floors p s cursor = by (slice_get p.subscriptions s) refl
-  where
-    by : (o : Option Subscription) → slice_get p.subscriptions s ≡ o → NoFloorFalls p (reconnected_by p s cursor o).1
-    by None found = floors_same p p refl
-    by (Some q) found =
-        either_way (λ (x : Result ℕ DeskRefusal × Picture). NoFloorFalls p x.1) q.closed _ _ (floors_same p p refl)
-        (keep_cut_either (λ (x : Result ℕ DeskRefusal × Picture). NoFloorFalls p x.1)
-        (nat_lt cursor q.floor || nat_lt q.offered cursor) _ _ (λ bad. floors_same p p refl)
-        (λ fits. floors_set p (reconnected_picture p s q cursor (cut_spans p.limits.batch (suc cursor) p.front)) s q
-        (record q { floor = cursor; link = p.next_link; spans = cut_spans p.limits.batch (suc cursor) p.front })
-        found refl
-        (ltb-false _ _ (either_false (nat_lt cursor q.floor) (nat_lt q.offered cursor) fits).0)))
-
--- the other calls change no floor
-pub unsubscribe_floors : (p : Picture) (s link : ℕ) → NoFloorFalls p (unsubscribe p s link).1
-unfolding unsubscribe
-unsubscribe_floors p s link = by (slice_get p.subscriptions s) refl
-  where
-    by : (o : Option Subscription) → slice_get p.subscriptions s ≡ o → NoFloorFalls p (unsubscribed_by p s link o).1
-    by None found = floors_same p p refl
-    by (Some q) found =
-        either_way (λ (x : Result Unit DeskRefusal × Picture). NoFloorFalls p x.1) (not (link == q.link)) _ _
-        (floors_same p p refl)
-        (either_way (λ (x : Result Unit DeskRefusal × Picture). NoFloorFalls p x.1) q.closed _ _ (floors_same p p refl)
-        (floors_set p (unsubscribed_picture p s q) s q (record q { closed = true; spans = [] }) found refl
-        (omega arith)))
-
-pub place_floors : (p : Picture) → NoFloorFalls p (place p)
-unfolding place
-place_floors p =
-    floors_mapped p (place p) (grown_subscription p.limits.batch (suc p.front)) refl
-    (λ q. either_way (λ (x : Subscription). x.floor ≡ q.floor) q.closed q
-    (record q { spans = grown_spans p.limits.batch (suc p.front) q.spans }) refl refl)
-
-pub close_floors : (p : Picture) → NoFloorFalls p (close p).1
-unfolding close
-close_floors p = floors_same p (close p).1 refl
-
-pub expire_floors : (p : Picture) (now : ℕ) → NoFloorFalls p (expire p now).1
-unfolding expire
-expire_floors p now = floors_mapped p (expire p now).1 _ refl (λ q. refl)
-
 -- ---- floors of all steps
-
--- a placement, whether it is made or not
-placed_if_floors : (p : Picture) (r : Result ℕ DeskRefusal) → NoFloorFalls p (placed_if p r)
-placed_if_floors p (Ok n) = place_floors p
-placed_if_floors p (Err why) = floors_same p p refl
 
 -- a place within a list has something
 within : {A : Type 0} (xs : List A) (i : ℕ) → i < length xs → slice_get xs i ≡ None → ⊥
@@ -585,27 +236,12 @@ floors_then p m r stay h k i a c first last = by (slice_get m.subscriptions i) r
             omega (arith, less, more, stay))
     by (Some b) found = omega (arith, h i a b first found, k i b c found last)
 
--- no floor falls at a step
-pub after_floors : (p : Picture) (step : Step) → IsPicture p → NoFloorFalls p (after_step p step)
-unfolding after_step
-after_floors p (Subscribe start) k = subscribe_floors p start
-after_floors p (Take s link cursor now) k = floors_rise_take p s link cursor now
-after_floors p (TakeAny now) k = floors_rise_take_any p now
-after_floors p (Ack s link delivery cursor) k = floors_rise_ack p s link delivery cursor k
-after_floors p (Nack s link delivery) k = floors_rise_nack p s link delivery
-after_floors p (NackOpened s link delivery) k = floors_rise_nack_opened p s link delivery
-after_floors p (Expire now) k = expire_floors p now
-after_floors p (Reconnect s cursor) k = reconnect_floors p s cursor
-after_floors p (Unsubscribe s link) k = unsubscribe_floors p s link
-after_floors p Place k = placed_if_floors p (prepare p)
-after_floors p Close k = close_floors p
-
--- nor at a list of them
+-- no floor falls at a list of steps
 pub replayed_floors : (p : Picture) (steps : List Step) → IsPicture p → NoFloorFalls p (replayed p steps)
 replayed_floors p [] k = floors_same p p refl
 replayed_floors p (step ∷ steps) k =
     floors_then p (after_step p step) (replayed (after_step p step) steps) (subscriptions_stay p step)
-    (after_floors p step k)
+    (each_step_kept p step k).floors
     (replayed_floors (after_step p step) steps (after_keeps p step k))
 
 -- no subscription goes, so each is still there

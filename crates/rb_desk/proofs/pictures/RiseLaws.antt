@@ -121,13 +121,25 @@ restated_other n first status (p ∷ rest) other = by (p.first == first) refl (r
         rw (ne_eqb p.first n (λ same. other (sym same ∙ e))) next
     by false is next = ap (cond (p.first == n) (Some p)) next
 
--- none changes where none begins with this number
-pub restated_none : (first low high : ℕ) (status : Status) (spans : List Span) → SpansRise low spans high → first < low
-    → with_status first status spans ≡ spans
-restated_none first low high status [] h less = refl
-restated_none first low high status (p ∷ rest) h less =
-    (λ i. cond (ne_eqb p.first first (omega (arith, h.0, less)) i) (record p { status = status }) p
-    ∷ restated_none first (suc p.last) high status rest h.2 (omega (arith, h.0, h.1, less)) i)
+-- what changes only the span that begins with a number changes none where all begin behind it
+abbrev pub ChangesNoLater : (ℕ → List Span → List Span) → Type 0
+ChangesNoLater change = (first low high : ℕ) (spans : List Span) → SpansRise low spans high → first < low
+    → change first spans ≡ spans
+
+pub changes_no_later : (change : ℕ → List Span → List Span) → ((first : ℕ) → change first [] ≡ [])
+    → ((first : ℕ) (p : Span) (rest : List Span) → (p.first == first) ≡ false
+    → change first (p ∷ rest) ≡ p ∷ change first rest)
+    → ChangesNoLater change
+changes_no_later change empty other first low high [] h less = empty first
+changes_no_later change empty other first low high (p ∷ rest) h less =
+    other first p rest (ne_eqb p.first first (omega (arith, h.0, less)))
+    ∙ ap (λ xs. p ∷ xs)
+    (changes_no_later change empty other first (suc p.last) high rest h.2 (omega (arith, h.0, h.1, less)))
+
+pub restated_none : (status : Status) → ChangesNoLater (λ first. with_status first status)
+restated_none status =
+    changes_no_later (λ first. with_status first status) (λ _. refl) (λ first p rest other.
+    ap (λ b. cond b (record p { status = status }) p ∷ with_status first status rest) other)
 
 -- how many pass a test of the status
 pub restated_count : (test : Status → Bool) (low high first : ℕ) (status : Status) (spans : List Span) (span : Span)
@@ -151,7 +163,7 @@ restated_count test low high first status (p ∷ rest) span h found =
         let same : one_if (test p.status) ≡ one_if (test span.status) = ap (λ (x : Span). one_if (test x.status)) e in
         let stay : length (filter passes (with_status first status rest)) ≡ length (filter passes rest) =
         ap (λ l. length (filter passes l))
-        (restated_none first (suc p.last) high status rest h.2 (omega (arith, h.1, eqb-true p.first first is))) in
+        (restated_none status first (suc p.last) high rest h.2 (omega (arith, h.1, eqb-true p.first first is))) in
         omega (
           arith,
           same,
@@ -178,7 +190,7 @@ restated_all P low high first status (p ∷ rest) span h found new all =
     by true is here next =
         let e : span ≡ p = cc in (
           subst (λ (x : Span). P (record x { status = status })) e new,
-          rw (restated_none first (suc p.last) high status rest h.2 (omega (arith, h.1, eqb-true p.first first is)))
+          rw (restated_none status first (suc p.last) high rest h.2 (omega (arith, h.1, eqb-true p.first first is)))
               all.1,
         )
     by false is here next = (all.0, next here)
@@ -243,13 +255,9 @@ floor_offered low offered high spans h le never = by (cases_lt offered (floor_of
 -- ---- one is removed
 
 -- none is removed where none begins with this number
-without_none : (first low high : ℕ) (spans : List Span) → SpansRise low spans high → first < low
-    → without_first first spans ≡ spans
-without_none first low high [] h less = refl
-without_none first low high (p ∷ rest) h less =
-    (λ i. cond (not (ne_eqb p.first first (omega (arith, h.0, less)) i))
-    (p ∷ without_none first (suc p.last) high rest h.2 (omega (arith, h.0, h.1, less)) i)
-    (without_none first (suc p.last) high rest h.2 (omega (arith, h.0, h.1, less)) i))
+without_none : ChangesNoLater without_first
+without_none = changes_no_later without_first (λ _. refl) (λ first p rest other.
+    ap (λ b. cond (not b) (p ∷ without_first first rest) (without_first first rest)) other)
 
 -- the others rise as before
 pub without_rise : (low high first : ℕ) (spans : List Span) → SpansRise low spans high

@@ -29,31 +29,33 @@ pub stop-cons : (how : Answering) (n : ℕ) (a : AnsweredLine) (xs : List Answer
     → first_stop how n (a ∷ xs) ≡ first_stop how (suc n) xs
 stop-cons how n a xs e = ap (λ (b : Bool). cond b (Some (refused_line n a)) (first_stop how (suc n) xs)) e
 
--- lines after others that don't stop the script
-pub output-append : (how : Answering) (n : ℕ) (xs bs : List AnsweredLine) → first_stop how n xs ≡ None
-    → output_for how n (xs ++ bs) ≡ output_for how n xs ++ output_for how (n + length xs) bs
-output-append how n [] bs none =
+-- lines after others that don't stop the script: their output, and where they stop it
+lines_append : (how : Answering) (n : ℕ) (xs bs : List AnsweredLine) → first_stop how n xs ≡ None
+    → (output_for how n (xs ++ bs) ≡ output_for how n xs ++ output_for how (n + length xs) bs)
+    × (first_stop how n (xs ++ bs) ≡ first_stop how (n + length xs) bs)
+lines_append how n [] bs none =
     let e : n ≡ n + 0 = omega arith in
-    ap (λ (m : ℕ). output_for how m bs) e
-output-append how n (a ∷ xs) bs none =
+    (ap (λ (m : ℕ). output_for how m bs) e, ap (λ (m : ℕ). first_stop how m bs) e)
+lines_append how n (a ∷ xs) bs none =
     let h = none_by (stops_after how a) (refused_line n a) (first_stop how (suc n) xs) none in
     let e : suc n + length xs ≡ n + suc (length xs) = omega arith in
     let mine : List ℕ = numbered_answer how n a.answer in
-    output-cons how n a (xs ++ bs) h.0
-    ∙ ap (λ (t : List ℕ). mine ++ t) (output-append how (suc n) xs bs h.1)
-    ∙ sym (append_assoc mine (output_for how (suc n) xs) (output_for how (suc n + length xs) bs))
-    ∙ ap (λ (t : List ℕ). t ++ output_for how (suc n + length xs) bs) (sym (output-cons how n a xs h.0))
-    ∙ ap (λ (m : ℕ). output_for how n (a ∷ xs) ++ output_for how m bs) e
+    let later = lines_append how (suc n) xs bs h.1 in (
+      output-cons how n a (xs ++ bs) h.0
+          ∙ ap (λ (t : List ℕ). mine ++ t) later.0
+          ∙ sym (append_assoc mine (output_for how (suc n) xs) (output_for how (suc n + length xs) bs))
+          ∙ ap (λ (t : List ℕ). t ++ output_for how (suc n + length xs) bs) (sym (output-cons how n a xs h.0))
+          ∙ ap (λ (m : ℕ). output_for how n (a ∷ xs) ++ output_for how m bs) e,
+      stop-cons how n a (xs ++ bs) h.0 ∙ later.1 ∙ ap (λ (m : ℕ). first_stop how m bs) e,
+    )
+
+pub output-append : (how : Answering) (n : ℕ) (xs bs : List AnsweredLine) → first_stop how n xs ≡ None
+    → output_for how n (xs ++ bs) ≡ output_for how n xs ++ output_for how (n + length xs) bs
+output-append how n xs bs none = (lines_append how n xs bs none).0
 
 pub stop-append : (how : Answering) (n : ℕ) (xs bs : List AnsweredLine) → first_stop how n xs ≡ None
     → first_stop how n (xs ++ bs) ≡ first_stop how (n + length xs) bs
-stop-append how n [] bs none =
-    let e : n ≡ n + 0 = omega arith in
-    ap (λ (m : ℕ). first_stop how m bs) e
-stop-append how n (a ∷ xs) bs none =
-    let h = none_by (stops_after how a) (refused_line n a) (first_stop how (suc n) xs) none in
-    let e : suc n + length xs ≡ n + suc (length xs) = omega arith in
-    stop-cons how n a (xs ++ bs) h.0 ∙ stop-append how (suc n) xs bs h.1 ∙ ap (λ (m : ℕ). first_stop how m bs) e
+stop-append how n xs bs none = (lines_append how n xs bs none).1
 
 -- the output for some lines is a prefix of that for more
 pub output-front : (how : Answering) (n : ℕ) (xs bs : List AnsweredLine)

@@ -16,10 +16,12 @@ use Rattle.rb_sequence.specs.Entry.{Entry}
 use Rattle.rb_subscriber.specs.Accept.{HasSingleTables, accept_brought, applied, applied_if_admitted, first_outside_entry}
 use Rattle.rb_subscriber.specs.Accept.{joined_bodies, refusal_before}
 use Rattle.rb_subscriber.specs.AcceptShown.{DueAnswers}
-use Rattle.rb_subscriber.specs.Durable.{Falls, IsPendingOver, KeptAnswers}
+use Rattle.rb_subscriber.specs.Durable.{Falls, IsPendingOver, KeepAnswers, KeptAnswers}
 use Rattle.rb_subscriber.specs.Endpoint.{Endpoint}
 use Rattle.rb_subscriber.specs.Shown.{ShowDelivery, entries_told}
 use Rattle.rb_subscriber.specs.Subscription.{PendingAccept, SubscriptionState, own_endpoint}
+use Rattle.rb_subscriber.specs.declared.keeping.KeepError.{KeepError}
+use Rattle.rb_subscriber.specs.declared.keeping.KeepError.TheVariants as keep
 use Rattle.rb_subscriber.specs.declared.refusal.AcceptRefusal.{AcceptRefusal}
 use Rattle.rb_subscriber.specs.declared.refusal.AcceptRefusal.TheVariants as refusal
 use Rattle.rb_subscriber.specs.declared.refusal.SubscriptionError.{SubscriptionError}
@@ -137,16 +139,32 @@ it_falls cells d sub steps base before told kept shown changes e new after s see
 
 -- ---- a refusal
 
-pub refused_kept : (cells : Cells) (d : Delivery) (sub steps : ℕ) (base : TableState) (before : Option PendingAccept)
+refused_here : (cells : Cells) (d : Delivery) (sub steps : ℕ) (base : TableState) (before : Option PendingAccept)
     (told kept shown : List CellToken) (e new : Endpoint) (why : AcceptRefusal) (s : SubscriptionState)
     → state_of sub steps base before e told ≡ s → kept ≡ told
     → e.cursor ≡ e.start + length told → e.fallen ≡ is_some before → refusal_before (own_endpoint s) d ≡ None
     → ShowDelivery cells d shown → accept_brought e (entries_told shown) d ≡ Err why → new ≡ e
     → KeptAnswers cells d (Err (Refused why)) s (state_of sub steps base before new kept)
-refused_kept cells d sub steps base before told kept shown e new why s seen same at fell free are refuses unmoved =
+refused_here cells d sub steps base before told kept shown e new why s seen same at fell free are refuses unmoved =
     let own : own_endpoint s ≡ e = ap own_endpoint (sym seen) ∙ own_as sub steps base before e told at fell in
     let back : state_of sub steps base before new kept ≡ s =
     ap (λ (x : Endpoint). state_of sub steps base before x kept) unmoved
     ∙ ap (state_of sub steps base before e) same ∙ seen in
     due_kept cells d (Err (Refused why)) s (state_of sub steps base before new kept) free
     (back, shown, are, ap (λ (x : Endpoint). accept_brought x (entries_told shown) d) own ∙ refuses)
+
+-- the same, where the cells and the entries stand elsewhere
+pub refused_kept : (cells sequence : Cells) (d : Delivery) (sub steps : ℕ) (base : TableState)
+    (before : Option PendingAccept) (told kept shown : List CellToken) (entries : List Entry) (e new : Endpoint)
+    (fault : KeepError) (why : AcceptRefusal) (s : SubscriptionState)
+    → state_of sub steps base before e told ≡ s → kept ≡ told
+    → e.cursor ≡ e.start + length told → e.fallen ≡ is_some before → refusal_before (own_endpoint s) d ≡ None
+    → sequence ≡ cells → ShowDelivery sequence d shown → entries ≡ entries_told shown → fault ≡ keep.Refused why
+    → KeepAnswers (Err fault) (accept_brought e entries d) e new
+    → KeptAnswers cells d (Err (Refused why)) s (state_of sub steps base before new kept)
+refused_kept cells sequence d sub steps base before told kept shown entries e new fault why s seen same at fell free
+    here shows back is answers =
+    let refuses = subst (λ (x : KeepError). KeepAnswers (Err x) (accept_brought e entries d) e new) is answers in
+    refused_here cells d sub steps base before told kept shown e new why s seen same at fell free
+    (subst (λ cs. ShowDelivery cs d shown) here shows)
+    (subst (λ es. accept_brought e es d ≡ Err why) back refuses.0) refuses.1

@@ -18,6 +18,7 @@ use Rattle.rb_subscriber.specs.Durable.{IfStoreFailed, IfStoreUnasked, IsNoRefus
 use Rattle.rb_subscriber.specs.Durable.{OnKeepConflict, OnKeepTables}
 use Rattle.rb_subscriber.specs.Endpoint.{Endpoint}
 use Rattle.rb_subscriber.proofs.accepting.AcceptLaws.{asked_of}
+use Rattle.rb_subscriber.proofs.runs.ConflictLaws.{ConflictsAsSingly}
 use Rattle.rb_subscriber.specs.declared.keeping.KeepError.{KeepError}
 use Rattle.rb_subscriber.specs.declared.keeping.KeepError.TheVariants as keep
 use Rattle.rb_subscriber.specs.declared.refusal.AcceptRefusal.{AcceptRefusal}
@@ -59,14 +60,14 @@ abbrev pub AppliesAsSingly : Endpoint → List Entry → Delivery → Type 0
 AppliesAsSingly old entries d = (new : Endpoint) (tables : TableState) → AreChangesets entries → HaveColumns old.tables
     → accept_brought old entries d ≡ Ok new → AppliesSingly old.tables entries tables → new.tables ≡ tables
 
-pub kept_singly : (old new : Endpoint) (entries : List Entry) (d : Delivery) (result : Result ℕ KeepError)
+kept_singly : (old new : Endpoint) (entries : List Entry) (d : Delivery) (result : Result ℕ KeepError)
     → AppliesAsSingly old entries d → KeepAnswers result (accept_brought old entries d) old new
     → OnKeepTables result (AreChangesets entries × HaveColumns old.tables)
     → OnOk result (HasSingleTables old.tables entries new.tables)
 kept_singly old new entries d (Ok cursor) law answers known = λ tables. law new tables known.0 known.1 answers.0
 kept_singly old new entries d (Err why) law answers known = tt
 
-pub pending_singly : (old new : Endpoint) (entries : List Entry) (d : Delivery) (result : Result ℕ KeepError)
+pending_singly : (old new : Endpoint) (entries : List Entry) (d : Delivery) (result : Result ℕ KeepError)
     → AppliesAsSingly old entries d → KeepAnswers result (accept_brought old entries d) old new
     → OnKeepTables result (AreChangesets entries × HaveColumns old.tables)
     → IfStoreFailed result (λ plan. HasSingleTables old.tables entries
@@ -75,13 +76,28 @@ pending_singly old new entries d (Err (keep.Store plan)) law answers known = λ 
     sym answers.changed ∙ law answers.after tables known.0 known.1 answers.accepts singly
 pending_singly old new entries d result law answers known = tt
 
-pub kept_conflicts : (old new : Endpoint) (entries : List Entry) (d : Delivery) (result : Result ℕ KeepError)
-    → ((conflict : Conflict) → AreChangesets entries → HaveColumns old.tables
-    → accept_brought old entries d ≡ Err (refusal.Conflict conflict)
-    → ConflictsSingly old.tables entries)
+kept_conflicts : (old new : Endpoint) (entries : List Entry) (d : Delivery) (result : Result ℕ KeepError)
+    → ConflictsAsSingly old entries d
     → KeepAnswers result (accept_brought old entries d) old new
     → OnKeepTables result (AreChangesets entries × HaveColumns old.tables)
     → OnKeepConflict result (ConflictsSingly old.tables entries)
 kept_conflicts old new entries d (Err (keep.Refused (refusal.Conflict conflict))) law answers known =
     law conflict known.0 known.1 answers.0
 kept_conflicts old new entries d result law answers known = tt
+
+-- what the laws say of an accept, whatever its result is
+pub record KeptSingly (old new : Endpoint) (entries : List Entry) (result : Result ℕ KeepError) : Type 0 where
+  pub singly : OnOk result (HasSingleTables old.tables entries new.tables)
+  pub conflicts : OnKeepConflict result (ConflictsSingly old.tables entries)
+  pub pending : IfStoreFailed result (λ plan. HasSingleTables old.tables entries
+      (changed_tables old.tables (planned_changes plan)))
+
+pub kept_as_singly : (old new : Endpoint) (entries : List Entry) (d : Delivery) (result : Result ℕ KeepError)
+    → AppliesAsSingly old entries d → ConflictsAsSingly old entries d
+    → KeepAnswers result (accept_brought old entries d) old new
+    → OnKeepTables result (AreChangesets entries × HaveColumns old.tables) → KeptSingly old new entries result
+kept_as_singly old new entries d result applies conflicts answers known = record {
+  singly = kept_singly old new entries d result applies answers known;
+  conflicts = kept_conflicts old new entries d result conflicts answers known;
+  pending = pending_singly old new entries d result applies answers known;
+}

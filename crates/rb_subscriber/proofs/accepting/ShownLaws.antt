@@ -111,26 +111,11 @@ was_accepted cells sequence d base told held shown grown entries e new same show
 -- ---- the answers
 
 -- an endpoint with its own cursor and mark
-end_as : (e : Endpoint) (n : ℕ) (b : Bool) → e.cursor ≡ n → e.fallen ≡ b
-    → record {
-      start = e.start;
-      cursor = n;
-      link = e.link;
-      closed = e.closed;
-      fallen = b;
-      tables = e.tables;
-    } ≡ e
-end_as e n b is fell = ap (λ (k : ℕ). the_end e k b) (sym is) ∙ ap (λ (f : Bool). the_end e e.cursor f) (sym fell)
+end_as : (e : Endpoint) (n : ℕ) (b : Bool) → e.cursor ≡ n → e.fallen ≡ b → record e { cursor = n; fallen = b } ≡ e
+end_as e n b is fell = ap (λ (k : ℕ). the_end k b) (sym is) ∙ ap (λ (f : Bool). the_end e.cursor f) (sym fell)
   where
-    the_end : Endpoint → ℕ → Bool → Endpoint
-    the_end e k f = record {
-      start = e.start;
-      cursor = k;
-      link = e.link;
-      closed = e.closed;
-      fallen = f;
-      tables = e.tables;
-    }
+    the_end : ℕ → Bool → Endpoint
+    the_end k f = record e { cursor = k; fallen = f }
 
 -- the state of a subscription with this endpoint and these tokens
 abbrev pub state_of : ℕ → ℕ → tables.TableState → Option PendingAccept → Endpoint → List CellToken → SubscriptionState
@@ -169,17 +154,7 @@ due_ok cells d sub steps cursor base pending told grown shown e new was at fell 
     )
   where
     as_state : Endpoint → List CellToken → SubscriptionState
-    as_state x xs = record {
-      sub = sub;
-      start = x.start;
-      link = x.link;
-      closed = x.closed;
-      base = base;
-      tables = new.tables;
-      told = xs;
-      pending = pending;
-      steps = steps;
-    }
+    as_state x xs = record (state_of sub steps base pending x xs) { tables = new.tables }
 
 applied_asks : (old : Endpoint) (last : ℕ) (r : Result tables.TableState Conflict) → AsksTables (applied old last r)
 applied_asks old last (Ok rows) = tt

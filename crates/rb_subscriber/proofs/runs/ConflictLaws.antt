@@ -115,12 +115,15 @@ conflict_singly goes group old entries delivery conflict valid have e =
     let joined = group old.tables (joined_bodies entries) found.0 (joined_valid entries valid) have found.1 in
     joined_conflicts goes old.tables entries joined.0 joined.1
 
+-- the law that a refused conflict is one of the bodies too, of one delivery
+abbrev pub ConflictsAsSingly : Endpoint → List Entry → Delivery → Type 0
+ConflictsAsSingly old entries delivery = (conflict : Conflict) → AreChangesets entries → HaveColumns old.tables
+    → accept_brought old entries delivery ≡ Err (refusal.Conflict conflict) → ConflictsSingly old.tables entries
+
 -- so it is where a call refuses for a conflict, of which the bodies and the rows are known
 pub conflict_answers : (old new : Endpoint) (entries : List Entry) (delivery : Delivery)
     (result : Result ℕ AcceptError)
-    → ((conflict : Conflict) → AreChangesets entries → HaveColumns old.tables
-    → accept_brought old entries delivery ≡ Err (refusal.Conflict conflict)
-    → ConflictsSingly old.tables entries)
+    → ConflictsAsSingly old entries delivery
     → AcceptAnswers result (accept_brought old entries delivery) old new
     → OnConflict result (AreChangesets entries × HaveColumns old.tables)
     → OnConflict result (ConflictsSingly old.tables entries)

@@ -6,21 +6,21 @@ use Rattle.sqlite_schema.specs.declared.schema.Table.{Table}
 use Rattle.sqlite.specs.Change.{created, next_tree, KeepsRows}
 use Rattle.sqlite.specs.Command.TheVariants.{CreateTable, Insert}
 use Rattle.sqlite.specs.Source.TheVariants.{Values}
-use Rattle.sqlite.specs.Does.{Tally, Does, lacks_sequence}
+use Rattle.sqlite.specs.Does.{Tally, lacks_sequence}
 use Rattle.sqlite.specs.Edit.{edit_of, edited}
 use Rattle.sqlite.specs.Effect.{Database}
-use Rattle.sqlite.specs.Listing.{understood}
 use Rattle.sqlite.specs.Rowids.TheVariants.{Chosen}
 use Rattle.sqlite.specs.Rows.{Written}
-use Rattle.sqlite.specs.State.{State, mode_of, Writes, Executes, ExecutesInside}
+use Rattle.sqlite.specs.State.{State, Writes, Executes, ExecutesInside}
 use Rattle.sqlite.specs.declared.error.Error.{Error}
-use Rattle.sqlite.proofs.Callers.{statement_of, runs_as, one_step}
+use Rattle.sqlite.proofs.Callers.{runs_as, one_step}
 use Rattle.replica_store.specs.Layout.{empty_schema, rows_schema, replica_schema, rb_row, rb_mark}
 use Rattle.replica_store.specs.Picture.{mark_record, IsNewReplica}
 use Rattle.replica_store.specs.Inside.{IsBlankInside, HasRowTable, HasBothTables, IsNewInside}
 use Rattle.replica_store.proofs.statements.Texts.{MakesThisTable, unplaced_mark, with_row_table, with_mark_table, create_row_text}
 use Rattle.replica_store.proofs.statements.Texts.{makes_row_table, create_mark_text, makes_mark_table}
 use Rattle.replica_store.proofs.statements.Texts.{first_mark_text, first_mark_terms, means_first_mark}
+use Rattle.replica_store.proofs.statements.Did.{did}
 use Rattle.replica_store.proofs.statements.Parts.{not_stopped, value_given, two_not_zero, cast_null, cast_int}
 
 -- the schema and the trees once the table is made
@@ -93,12 +93,8 @@ first_mark_put old new (Err e) was h = tt
 first_mark_put old new (Ok count) was h =
     let db = old.now.trees in
     let command = Insert 1 (Values first_mark_terms 3) in
-    let w =
-    runs_as first_mark_text [] old new replica_schema was.schema command means_first_mark.command
-    means_first_mark.plain count h.0 in
-    let text = statement_of first_mark_text (understood replica_schema first_mark_text) in
-    let done = not_stopped (subst (λ s. Does old.step_limit (mode_of old) []
-    (record old.now { schema = s }) text None command (Ok (w.tally, new.now))) was.schema w.changed) in
+    let did_so = did first_mark_text [] old new command count means_first_mark (λ t w. w) was.schema h.0 in
+    let done = not_stopped did_so.does in
     let now = ap (λ (p : Tally × Database). p.1) (value_given (not_stopped (not_stopped done.2).2).2) in
     let given = not_stopped done.1 in
     let written = not_stopped (not_stopped given.2).2 in

@@ -10,7 +10,7 @@ use Rattle.sqlite_value.specs.declared.value.Value.TheVariants.{Null, Int, Real,
 use Rattle.sqlite_value.specs.Order.{column}
 use Rattle.sqlite.specs.Effect.{Database}
 use Rattle.sqlite.specs.Order.{Row}
-use Rattle.sqlite.specs.State.{State}
+use Rattle.sqlite.specs.State.{State, HasCleanDisk, IsUnchanged}
 use Rattle.sqlite.specs.Tree.{Trees, rowid}
 use Rattle.sqlite_trees.specs.View.{View, is_int, IsOrdered, IsShaped}
 use Rattle.sqlite_trees.specs.Objects.{catalog_tree, IsListed}
@@ -28,6 +28,8 @@ use Rattle.replica_store.specs.Layout.{plain_column, replica_schema, rb_row, rb_
 use Rattle.replica_store.specs.Picture.{row_record, mark_record, HasCursor, HoldsReplica, IsReplica}
 use Rattle.replica_store.specs.Reading.{HasTableColumns, AreRowRecords, ListsRows, shown_row, shown_mark, is_natural}
 use Rattle.replica_store.specs.Reading.{is_blob_value, is_shown_record, IsMarkAnswer}
+use Rattle.replica_store.specs.Steps.{AddsNone, KeepsColumns, WhereClean}
+use Rattle.replica_store.proofs.statements.Parts.{was_clean}
 
 ends_falsely : (a b : Bool) → (b ≡ true → ⊥) → (a && b) ≡ true → ⊥
 ends_falsely true b never h = never h
@@ -178,6 +180,11 @@ replica_by_parts db has true marks rows mark =
     (λ m. record { rising = has.rising; rows = rows.0 refl; mark = mark.0 m }, λ r. mark.1 r.mark)
 replica_by_parts db has false marks rows mark =
     (λ m. absurd (true≢false (sym m)), λ r. absurd (true≢false (sym (rows.1 r.rows))))
+
+-- a connection that a call left as it was is open, so it has its columns
+pub columns_read : (old new : State) → WhereClean KeepsColumns old → AddsNone old new → IsUnchanged old new
+    → HasCleanDisk new → HasTableColumns old.now.trees
+columns_read old new has survives same clean = has (was_clean old new _ survives clean) same.0.was_open
 
 -- a replica's mark is what its query answers
 pub mark_answered : (s : State) (answer : List Row) (held : HoldsReplica s)

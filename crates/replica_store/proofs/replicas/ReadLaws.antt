@@ -2,7 +2,9 @@
 use Rattle.std.proofs.Common.{◌≡◌, inl, inr, ℕ, suc, pos, negsuc, List, [], ◌∷◌, length, map, codes, false, None, Ok}
 use Rattle.std.proofs.Common.{Err, Result, IfOk, OnOk, refl, sym, ap, subst, ◌∙◌}
 use Rattle.std.proofs.Common.{flat_map, IsPermutation, arith}
+use Rattle.std.specs.Global.{Vec}
 use Rattle.std.proofs.lemmas.List.{length-map}
+use Rattle.std.proofs.lemmas.Result.{IfOk-weaker}
 use Rattle.std.proofs.lemmas.List.Sorted.{IsPermutation-sym, length_permutation}
 use Rattle.sqlite_trees.proofs.ListLemmas.{all-permutation}
 use Rattle.sqlite_value.specs.declared.value.Value.TheVariants.{Null, Int}
@@ -23,6 +25,8 @@ use Rattle.sqlite_rules.proofs.ListLemmas.{all_has, all_from}
 use Rattle.sqlite_rules.proofs.ProbeLemmas.{has_mapped, mapped_has}
 use Rattle.replica_store.specs.Layout.{replica_schema}
 use Rattle.replica_store.specs.Reading.{ListsRows}
+use Rattle.replica_store.specs.Steps.{ListsTree}
+use Rattle.replica_store.proofs.statements.Parts.{was_clean}
 
 -- the query of these terms of each row of a tree
 abbrev pub query_of_all : ℕ → List Term → Query
@@ -112,7 +116,7 @@ all_listed tree project db answer a =
     }
 
 -- what such a query shows is the terms of each row
-pub rows_listed : (text : List ℕ) (tree : ℕ) (terms : List Term) (names : List (List ℕ)) → Asks text tree terms names
+rows_listed : (text : List ℕ) (tree : ℕ) (terms : List Term) (names : List (List ℕ)) → Asks text tree terms names
     → (old new : State) (rows : List Row) → old.now.schema ≡ replica_schema → Shown text [] old new rows
     → ListsRows (λ r. eval_all terms ([] ∷ r ∷ [])) (overlay old.now.trees [] tree) rows
 rows_listed text tree terms names asks old new rows has h =
@@ -120,7 +124,7 @@ rows_listed text tree terms names asks old new rows has h =
     all_listed tree terms (overlay old.now.trees []) rows (read.answer Null)
 
 -- a query that shows its rows changes nothing
-pub shown_changes_nothing : (text : List ℕ) (old new : State) (rows : List Row) → old.now.schema ≡ replica_schema
+shown_changes_nothing : (text : List ℕ) (old new : State) (rows : List Row) → old.now.schema ≡ replica_schema
     → IsPlain (understood replica_schema text) → Shown text [] old new rows → IsUnchanged old new
 unfolding Shown
 shown_changes_nothing text old new rows has plain h =
@@ -128,7 +132,7 @@ shown_changes_nothing text old new rows has plain h =
     let bare = subst IsPlain (sym known) plain in
     (rw bare.0 at h.2).3
 
-pub query_commits_nothing : (text : List ℕ) (old new : State)
+query_commits_nothing : (text : List ℕ) (old new : State)
     → (HasCleanDisk old → old.now.schema ≡ replica_schema) → IsPlain (understood replica_schema text)
     → Survives old new (CommitsShowing text [] old) → Survives old new (λ _. ⊥)
 query_commits_nothing text old new has plain s =
@@ -138,3 +142,21 @@ query_commits_nothing text old new has plain s =
 pub on_ok_if : {T E : Type 0} (r : Result T E) (Q : T → Type 0) (P : Type 0) → ((x : T) → Q x → P) → IfOk r Q → OnOk r P
 on_ok_if (Ok x) Q P f h = f x h
 on_ok_if (Err e) Q P f h = tt
+
+-- a call that runs such a query lists the tree, and changes nothing
+pub tree_listed : {E : Type 0} (text : List ℕ) (tree : ℕ) (terms : List Term) (names : List (List ℕ))
+    → Asks text tree terms names → ((db : Trees) → overlay db [] tree ≡ db tree)
+    → (r : Result (Vec Row) E) (old new : State)
+    → (HasCleanDisk old → old.now.schema ≡ replica_schema)
+    → (HasCleanDisk new → IfOk r (λ rows. Shown text [] old new rows.items))
+    → Survives old new (CommitsShowing text [] old) → ListsTree (λ r. eval_all terms ([] ∷ r ∷ [])) tree r old new
+tree_listed text tree terms names asks own r old new has shown survives =
+    let had : HasCleanDisk new → old.now.schema ≡ replica_schema =
+    λ clean. has (was_clean old new _ survives clean) in (
+      λ clean. IfOk-weaker r _ _
+          (λ rows h. subst (λ rs. ListsRows (λ r. eval_all terms ([] ∷ r ∷ [])) rs rows.items) (own old.now.trees)
+          (rows_listed text tree terms names asks old new rows.items (had clean) h)) (shown clean),
+      λ clean. on_ok_if r _ _
+          (λ rows. shown_changes_nothing text old new rows.items (had clean) asks.plain) (shown clean),
+      query_commits_nothing text old new has asks.plain survives,
+    )

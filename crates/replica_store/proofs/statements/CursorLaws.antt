@@ -1,5 +1,5 @@
 -- What setting the cursor does to a replica's trees.
-use Rattle.std.proofs.Common.{◌≡◌, ℕ, pos, [], ◌∷◌, map, None, Ok, Err, Result, OnOk, refl, sym, ap, subst, ◌∙◌}
+use Rattle.std.proofs.Common.{◌≡◌, ℕ, pos, [], ◌∷◌, map, Ok, Err, Result, OnOk, refl, sym, ap, subst, ◌∙◌}
 use Rattle.std.specs.List.Sorted.{IsPermutation}
 use Rattle.sqlite_value.specs.declared.value.Value.TheVariants.{Null, Int}
 use Rattle.sqlite.specs.Order.{Row}
@@ -11,16 +11,16 @@ use Rattle.sqlite.specs.Edit.{edit_of, edited}
 use Rattle.sqlite.specs.Rowids.TheVariants.{Given}
 use Rattle.sqlite_rules.specs.Lists.{Has}
 use Rattle.sqlite_rules.specs.Calls.{ids_of}
-use Rattle.sqlite.specs.Does.{Tally, Does}
+use Rattle.sqlite.specs.Does.{Tally}
 use Rattle.sqlite.specs.Rows.{Written}
 use Rattle.sqlite.specs.Effect.{Database}
-use Rattle.sqlite.specs.Listing.{understood}
 use Rattle.sqlite.specs.declared.error.Error.{Error}
-use Rattle.sqlite.specs.State.{State, mode_of, ExecutesInside}
-use Rattle.sqlite.proofs.Callers.{statement_of, runs_as, one_step, one_permutation}
+use Rattle.sqlite.specs.State.{State, ExecutesInside}
+use Rattle.sqlite.proofs.Callers.{one_step, one_permutation}
 use Rattle.replica_store.specs.Layout.{rb_mark, replica_schema}
 use Rattle.replica_store.specs.Picture.{mark_record}
 use Rattle.replica_store.specs.Inside.{IsInside, SetsCursor}
+use Rattle.replica_store.proofs.statements.Did.{did}
 use Rattle.replica_store.proofs.statements.Parts.{not_stopped, value_given, two_not_zero, cast_null, cast_int, mark_at_one}
 use Rattle.replica_store.proofs.statements.Texts.{set_cursor_text, cursor_query, means_set_cursor}
 
@@ -33,12 +33,8 @@ sets_the_cursor old new place (Ok count) i h =
     let was = i.replica.mark.1 in
     let first = mark_record i.replica.mark.0 in
     let command = Update 1 (record { lets = []; body = cursor_query }) in
-    let w =
-    runs_as set_cursor_text params old new replica_schema i.schema command means_set_cursor.command
-    means_set_cursor.plain count h.0 in
-    let text = statement_of set_cursor_text (understood replica_schema set_cursor_text) in
-    let done = not_stopped (subst (λ s. Does old.step_limit (mode_of old) params
-    (record old.now { schema = s }) text None command (Ok (w.tally, new.now))) i.schema w.changed) in
+    let did_so = did set_cursor_text params old new command count means_set_cursor (λ t w. w) i.schema h.0 in
+    let done = not_stopped did_so.does in
     let now = ap (λ (p : Tally × Database). p.1) (value_given (not_stopped (not_stopped done.2).2).2) in
     let found = not_stopped done.1 in
     let written = not_stopped found.2 in

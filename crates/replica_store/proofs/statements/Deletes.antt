@@ -1,5 +1,5 @@
 -- What the deletion of a key does to a replica's trees.
-use Rattle.std.proofs.Common.{◌≡◌, ℕ, List, [], None, Ok, Err, Result, OnOk, refl, sym, ap, subst, ◌∙◌}
+use Rattle.std.proofs.Common.{◌≡◌, ℕ, List, [], Ok, Err, Result, OnOk, refl, sym, ap, subst, ◌∙◌}
 use Rattle.sqlite_value.specs.declared.value.Value.TheVariants.{Null}
 use Rattle.sqlite.specs.Order.{Row}
 use Rattle.sqlite.specs.Tree.{Trees, IsTable}
@@ -13,17 +13,17 @@ use Rattle.sqlite_rules.specs.Calls.{ids_of}
 use Rattle.sqlite_rules.specs.Probe.{AreFound}
 use Rattle.sqlite_rules.proofs.ProbeLemmas.{rowid_query, found_rowids}
 use Rattle.sqlite_rules.proofs.TableLemmas.{without_all_has}
-use Rattle.sqlite.specs.Does.{Tally, Does}
+use Rattle.sqlite.specs.Does.{Tally}
 use Rattle.sqlite.specs.Rows.{Written}
 use Rattle.sqlite.specs.Effect.{Database}
-use Rattle.sqlite.specs.Listing.{understood}
 use Rattle.sqlite.specs.declared.error.Error.{Error}
-use Rattle.sqlite.specs.State.{State, mode_of, Executes, ExecutesInside}
-use Rattle.sqlite.proofs.Callers.{statement_of, runs_as, one_step}
+use Rattle.sqlite.specs.State.{State, Executes, ExecutesInside}
+use Rattle.sqlite.proofs.Callers.{one_step}
 use Rattle.cs_model.specs.declared.row_key.RowKey.{RowKey}
 use Rattle.replica_store.specs.Layout.{replica_schema, rb_row}
 use Rattle.replica_store.specs.Picture.{row_record, Stores, AreSameRows, IsReplica}
 use Rattle.replica_store.specs.Inside.{WithoutRow, IsInside, ChangesRows}
+use Rattle.replica_store.proofs.statements.Did.{did}
 use Rattle.replica_store.proofs.statements.Parts.{not_stopped, value_given, two_not_zero}
 use Rattle.replica_store.proofs.statements.Texts.{delete_text, delete_tests, delete_query, means_delete}
 use Rattle.replica_store.proofs.statements.DeletedRows.{key_params, row_left, row_was, still_rising}
@@ -56,11 +56,7 @@ deletes old new key count has h =
     let params = key_params key in
     let db = old.now.trees in
     let command = Delete 0 (record { lets = []; body = delete_query }) in
-    let w =
-    runs_as delete_text params old new replica_schema has command means_delete.command means_delete.plain count h in
-    let text = statement_of delete_text (understood replica_schema delete_text) in
-    let done = not_stopped (subst (λ s. Does old.step_limit (mode_of old) params
-    (record old.now { schema = s }) text None command (Ok (w.tally, new.now))) has w.changed) in
+    let done = not_stopped (did delete_text params old new command count means_delete (λ t w. w) has h).does in
     let now = ap (λ (p : Tally × Database). p.1) (value_given (not_stopped (not_stopped done.2).2).2) in
     let given = not_stopped done.1 in
     let written = not_stopped given.2 in

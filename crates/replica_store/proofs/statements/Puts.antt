@@ -1,5 +1,5 @@
 -- What the insertion of a row does to a replica's trees.
-use Rattle.std.proofs.Common.{◌≡◌, inl, inr, ℕ, ℤ, pos, List, [], ◌∷◌, true, None, Ok, Err, Result, OnOk, refl, sym, ap}
+use Rattle.std.proofs.Common.{◌≡◌, inl, inr, ℕ, ℤ, pos, List, [], ◌∷◌, true, Ok, Err, Result, OnOk, refl, sym, ap}
 use Rattle.std.proofs.Common.{subst, ◌∙◌}
 use Rattle.sqlite_value.specs.declared.value.Value.TheVariants.{Int, Blob}
 use Rattle.sqlite.specs.Order.{Row}
@@ -11,17 +11,17 @@ use Rattle.sqlite.specs.Edit.{edit_of, put_all, next_rowid, are_fresh}
 use Rattle.sqlite.specs.Rowids.TheVariants.{Chosen}
 use Rattle.sqlite_rules.specs.Lists.{Has}
 use Rattle.sqlite_rules.proofs.TableLemmas.{put_all_has, put_all_keeps, put_all_adds}
-use Rattle.sqlite.specs.Does.{Tally, Does}
+use Rattle.sqlite.specs.Does.{Tally}
 use Rattle.sqlite.specs.Rows.{Written}
 use Rattle.sqlite.specs.Effect.{Database}
-use Rattle.sqlite.specs.Listing.{understood}
 use Rattle.sqlite.specs.declared.error.Error.{Error}
-use Rattle.sqlite.specs.State.{State, mode_of, Executes, ExecutesInside}
-use Rattle.sqlite.proofs.Callers.{statement_of, runs_as, one_step}
+use Rattle.sqlite.specs.State.{State, Executes, ExecutesInside}
+use Rattle.sqlite.proofs.Callers.{one_step}
 use Rattle.cs_model.specs.declared.row_key.RowKey.{RowKey}
 use Rattle.replica_store.specs.Layout.{replica_schema, rb_row}
 use Rattle.replica_store.specs.Picture.{row_record, Stores, AreSameRows}
 use Rattle.replica_store.specs.Inside.{WithBody, IsInside, ChangesRows}
+use Rattle.replica_store.proofs.statements.Did.{did}
 use Rattle.replica_store.proofs.statements.Parts.{not_stopped, value_given, two_not_zero, cast_null, cast_int}
 use Rattle.replica_store.proofs.statements.Texts.{insert_text, insert_terms, means_insert}
 use Rattle.replica_store.proofs.statements.DeletedRows.{key_of_parts}
@@ -44,11 +44,7 @@ puts_row old new key body count has h =
     let params = row_params key body in
     let db = old.now.trees in
     let command = Insert 0 (Values insert_terms 4) in
-    let w =
-    runs_as insert_text params old new replica_schema has command means_insert.command means_insert.plain count h in
-    let text = statement_of insert_text (understood replica_schema insert_text) in
-    let done = not_stopped (subst (λ s. Does old.step_limit (mode_of old) params
-    (record old.now { schema = s }) text None command (Ok (w.tally, new.now))) has w.changed) in
+    let done = not_stopped (did insert_text params old new command count means_insert (λ t w. w) has h).does in
     let now = ap (λ (p : Tally × Database). p.1) (value_given (not_stopped (not_stopped done.2).2).2) in
     let rows = not_stopped done.1 in
     let written = not_stopped (not_stopped rows.2).2 in

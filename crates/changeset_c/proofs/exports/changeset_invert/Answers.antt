@@ -1,18 +1,10 @@
-use Rattle.std.proofs.Common.{◌≡◌, negsuc, w64, to_z, of_z, to_z-of_z, length, sym, subst, arith}
-use Rattle.changeset_c.specs.Says.{IsNumber, inverse_text}
-use Rattle.changeset_c.proofs.Laws.{write_only, write_fault}
+use Rattle.std.proofs.Common.{to_z-of_z, arith}
+use Rattle.changeset_c.specs.Says.{inverse_text}
+use Rattle.changeset_c.proofs.Laws.{written_for_c}
 use Rattle.changeset_c.proofs.exports.changeset_invert.Goals as goal
 
-pub returns-clause-only : goal.returns-clause-only
-returns-clause-only c =
-    let same : to_z w64 (of_z w64 c.inverted.result) ≡ c.inverted.result = grind (arith, to_z-of_z) in
-    λ changeset s. subst (λ answer. IsNumber answer (length (inverse_text changeset))) (sym same)
-    (write_only inverse_text c.inverted.result c.args.out.now c.inverted.new.out c.args.text.now
-    (c.every_text.ensures c.args.text.now (λ i. omega (arith, c.type_inv.text i))) c.inverted.ensures changeset s)
-
-pub returns-clause-the_fault : goal.returns-clause-the_fault
-returns-clause-the_fault c =
-    let same : to_z w64 (of_z w64 c.inverted.result) ≡ c.inverted.result = grind (arith, to_z-of_z) in
-    λ fault h. subst (λ answer. answer ≡ negsuc 0) (sym same)
-    (write_fault inverse_text c.inverted.result c.args.out.now c.inverted.new.out c.args.text.now
-    (c.every_text.ensures c.args.text.now (λ i. omega (arith, c.type_inv.text i))) c.inverted.ensures fault h)
+pub returns : goal.returns
+returns c =
+    let told = written_for_c inverse_text c.inverted.result c.args.out.now c.inverted.new.out c.args.text.now
+    (grind (arith, to_z-of_z)) c.every_text.ensures c.type_inv.text c.inverted.ensures in
+    record { says = told.0; only = told.1; the_fault = told.2 }

@@ -2,8 +2,8 @@ use Rattle.std.proofs.Common.{arith, rules}
 use Rattle.cs_model.specs.declared.value.Value.TheVariants.{Null}
 use Rattle.cs_model.specs.declared.value.Field.TheVariants.{Undefined, Is}
 use Rattle.cs_model.proofs.packing.PackedLaws.{none_back, null_back}
-use Rattle.cs_model.proofs.spelling.FieldReads.{only_typed, text_typed, blob_typed, integer_typed, same_field_number, found_integer}
-use Rattle.cs_model.proofs.spelling.FieldReads.{no_field_read}
+use Rattle.cs_model.proofs.spelling.FieldReads.{only_typed, only_text, only_blob, integer_typed, same_field_number}
+use Rattle.cs_model.proofs.spelling.FieldReads.{found_integer, no_field_read, no_counted_field}
 use Rattle.cs_model.proofs.field.field_read.Goals as goal
 
 pub returns-in_err-number-in-1-clause-only : goal.returns-in_err-number-in-1-clause-only
@@ -14,17 +14,15 @@ returns-in_err-number-in-1-clause-only c = λ field len fits within spells.
 
 pub returns-in_err-text-in-3-clause-only : goal.returns-in_err-text-in-3-clause-only
 returns-in_err-text-in-3-clause-only c = λ field len fits within spells.
-    let first = c.in_ok-kind in
-    absurd (no_field_read c.args.bytes.now first.rest.now _ len field first.ensures.cases.0 (λ is. omega arith)
-    (λ is. absurd (omega arith)) (λ low high text n inside s. cc (c.in_err-text-in-3.ensures.only text n inside s))
-    (λ is. omega arith) within spells)
+    absurd (no_counted_field c.args.bytes.now c.in_ok-kind.rest.now _ len field c.in_ok-kind.ensures.cases.0
+    (omega arith) (omega arith) (λ text n inside s. cc (c.in_err-text-in-3.ensures.only text n inside s)) within
+    spells)
 
 pub returns-in_err-blob-in-4-clause-only : goal.returns-in_err-blob-in-4-clause-only
 returns-in_err-blob-in-4-clause-only c = λ field len fits within spells.
-    let first = c.in_ok-kind in
-    absurd (no_field_read c.args.bytes.now first.rest.now _ len field first.ensures.cases.0 (λ is. omega arith)
-    (λ is. absurd (omega arith)) (λ low high text n inside s. cc (c.in_err-blob-in-4.ensures.only text n inside s))
-    (λ is. omega arith) within spells)
+    absurd (no_counted_field c.args.bytes.now c.in_ok-kind.rest.now _ len field c.in_ok-kind.ensures.cases.0
+    (omega arith) (omega arith) (λ text n inside s. cc (c.in_err-blob-in-4.ensures.only text n inside s)) within
+    spells)
 
 pub returns-in_default-clause-only : goal.returns-in_default-clause-only
 returns-in_default-clause-only c = λ field len fits within spells.
@@ -46,17 +44,13 @@ returns-in-5-clause-only c =
 
 pub returns-in_ok-text-in-3-clause-only : goal.returns-in_ok-text-in-3-clause-only
 returns-in_ok-text-in-3-clause-only c =
-    let first = c.in_ok-kind in
-    let found = c.in_ok-text-in-3.ensures.found in
-    only_typed c.args.bytes.now first.rest.now _ 3 _ _ first.ensures.cases.0 c.in-3.is found.0
-    (text_typed first.rest.now _ _ found.1)
+    only_text c.args.bytes.now c.in_ok-kind.rest.now _ _ _ c.in_ok-kind.ensures.cases.0 c.in-3.is
+    c.in_ok-text-in-3.ensures.found
 
 pub returns-in_ok-blob-in-4-clause-only : goal.returns-in_ok-blob-in-4-clause-only
 returns-in_ok-blob-in-4-clause-only c =
-    let first = c.in_ok-kind in
-    let found = c.in_ok-blob-in-4.ensures.found in
-    only_typed c.args.bytes.now first.rest.now _ 4 _ _ first.ensures.cases.0 c.in-4.is found.0
-    (blob_typed first.rest.now _ _ found.1)
+    only_blob c.args.bytes.now c.in_ok-kind.rest.now _ _ _ c.in_ok-kind.ensures.cases.0 c.in-4.is
+    c.in_ok-blob-in-4.ensures.found
 
 pub returns-in_ok-number-in-1-clause-found : goal.returns-in_ok-number-in-1-clause-found
 returns-in_ok-number-in-1-clause-found c =

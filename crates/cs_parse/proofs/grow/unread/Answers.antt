@@ -5,20 +5,18 @@ use Rattle.cs_parse.proofs.grow.unread.Goals as goal
 
 pub returns-in-Some : goal.returns-in-Some
 returns-in-Some c = λ others same.
-    let w = c.head_of-stopped in
-    let bytes = c.args.bytes.now in
-    let heads = subst (λ o. Heads o bytes w.result.0 w.result.1.now w.result.2 w.result.3) (sym same) w.ensures in
-    let all = unread_brings c.changes_fit.ensures c.spelled_is_said.ensures others bytes w.result.0 w.result.1.now
-    w.result.2 w.result.3 (λ i. omega (arith, c.type_inv.bytes i)) heads in
-    unread_wrong others bytes _ c.args.taken c.in-Some.fault
-    (ap (λ o. fault_by c.args.taken o) (sym c.end_of.ensures) ∙ (sym c.wrong_in.ensures ∙ c.in-Some.is)) all
+    let w = c.head_of-stopped.result in
+    unread_wrong others c.args.bytes.now _ c.args.taken c.in-Some.fault
+    (ap (λ o. fault_by c.args.taken o) (sym c.end_of.ensures) ∙ (sym c.wrong_in.ensures ∙ c.in-Some.is))
+    (unread_brings c.changes_fit.ensures c.spelled_is_said.ensures others c.args.bytes.now w.0 w.1.now w.2 w.3
+    (λ i. omega (arith, c.type_inv.bytes i))
+    (subst (λ o. Heads o c.args.bytes.now w.0 w.1.now w.2 w.3) (sym same) c.head_of-stopped.ensures))
 
 pub returns-in-None : goal.returns-in-None
 returns-in-None c = λ others same.
-    let w = c.head_of-stopped in
-    let bytes = c.args.bytes.now in
-    let heads = subst (λ o. Heads o bytes w.result.0 w.result.1.now w.result.2 w.result.3) (sym same) w.ensures in
-    let all = unread_brings c.changes_fit.ensures c.spelled_is_said.ensures others bytes w.result.0 w.result.1.now
-    w.result.2 w.result.3 (λ i. omega (arith, c.type_inv.bytes i)) heads in
-    unread_right others bytes _ c.args.taken
-    (ap (λ o. fault_by c.args.taken o) (sym c.end_of.ensures) ∙ (sym c.wrong_in.ensures ∙ c.in-None.is)) all
+    let w = c.head_of-stopped.result in
+    unread_right others c.args.bytes.now _ c.args.taken
+    (ap (λ o. fault_by c.args.taken o) (sym c.end_of.ensures) ∙ (sym c.wrong_in.ensures ∙ c.in-None.is))
+    (unread_brings c.changes_fit.ensures c.spelled_is_said.ensures others c.args.bytes.now w.0 w.1.now w.2 w.3
+    (λ i. omega (arith, c.type_inv.bytes i))
+    (subst (λ o. Heads o c.args.bytes.now w.0 w.1.now w.2 w.3) (sym same) c.head_of-stopped.ensures))

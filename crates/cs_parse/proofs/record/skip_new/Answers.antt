@@ -16,6 +16,7 @@ use Rattle.cs_parse.specs.Canonical.{IsCanonical}
 use Rattle.cs_parse.proofs.counting.CanonicalLaws.{none_canonical, more_canonical}
 use Rattle.cs_parse.proofs.counting.Skims.{field_passed, field_refused, field_begins, field_missing, fields_passed}
 use Rattle.cs_parse.proofs.record.skip_new.Goals as goal
+use Rattle.cs_parse.proofs.record.skip_new.Goals.{In_ok-field}
 
 abbrev SkipNewRead : Type 0
 SkipNewRead = Result (List Field × List ℕ) ParseRefusal
@@ -79,44 +80,51 @@ returns-in_err-field-clause-read c = λ before left h.
     fails
     (old_column flags i old (Ok (drop i before, left)) c.loop-flag-test.true (c.loop-flag.invariant before left h).0))
 
+-- the old record's field in this column stands first, and those behind it are read on
+old_begins : (c : In_ok-field) (before : List Field) (left : List ℕ)
+    → record_at (map old_rule (drop c.loop-flag.flag-index c.args.flags.now)) c.loop-flag.old_rest.now
+    ≡ Ok (drop c.loop-flag.flag-index before, left)
+    → (drop c.loop-flag.flag-index before
+    ≡ field_seen c.in_ok-field.field ∷ drop 1 (drop c.loop-flag.flag-index before))
+    × (record_at (map old_rule (drop (c.loop-flag.flag-index + 1) c.args.flags.now)) c.in_ok-field.old_after.now
+    ≡ Ok (drop 1 (drop c.loop-flag.flag-index before), left))
+old_begins c before left so_far =
+    let flags = c.args.flags.now in
+    let i = c.loop-flag.flag-index in
+    let old = c.loop-flag.old_rest.now in
+    field_begins (old_rule (get_or flags i 0)) (map old_rule (drop (i + 1) flags)) old (field_seen c.in_ok-field.field)
+    c.in_ok-field.old_after.now (drop i before) left
+    (sym (ap (λ r. field_at r old) c.rule_by_flag.ensures) ∙ c.in_ok-field.ensures.read)
+    (old_column flags i old (Ok (drop i before, left)) c.loop-flag-test.true so_far)
+
 pub returns-in_err-after-clause-read : goal.returns-in_err-after-clause-read
 returns-in_err-after-clause-read c = λ before left h.
     let flags = c.args.flags.now in
     let i = c.loop-flag.flag-index in
-    let flag = get_or flags i 0 in
-    let old = c.loop-flag.old_rest.now in
     let rest = c.loop-flag.rest.now in
     let first = field_seen c.in_ok-field.field in
-    let inv = c.loop-flag.invariant before left h in
     let e = c.in_err-after.field-0.0 in
     let p = err_from_is_err_and c.from_residual-in_err-after.result c.from_residual-in_err-after.ensures.1 in
+    let inv = c.loop-flag.invariant before left h in
     let total = bytes_after (record_at (new_rules flags before) c.args.bytes.now) in
-    let old_reads : field_at (old_rule flag) old ≡ Ok (first, c.in_ok-field.old_after.now) =
-    sym (ap (λ r. field_at r old) c.rule_by_flag.ensures) ∙ c.in_ok-field.ensures.read in
-    let begins = field_begins (old_rule flag) (map old_rule (drop (i + 1) flags)) old first c.in_ok-field.old_after.now
-    (drop i before) left old_reads (old_column flags i old (Ok (drop i before, left)) c.loop-flag-test.true inv.0)
-    in
-    let fails : field_at (new_rule flag first) rest ≡ Err e =
-    sym (same_field (rule_of c.rule_by_old.result) (new_rule flag first) rest
+    let begins = old_begins (goal.at.returns-in_err-after-clause-read c).In_ok-field before left inv.0 in
+    let fails : field_at (new_rule (get_or flags i 0) first) rest ≡ Err e =
+    sym (same_field (rule_of c.rule_by_old.result) (new_rule (get_or flags i 0) first) rest
     (λ byte. c.rule_by_old.ensures byte first (sym c.has_value.ensures))) ∙ c.in_err-after.ensures.read in
-    rw (p.1, p.2) (field_refused (new_rule flag first) (new_rules (drop (i + 1) flags) (drop (i + 1) before)) rest e
+    rw (p.1, p.2)
+    (field_refused (new_rule (get_or flags i 0) first) (new_rules (drop (i + 1) flags) (drop (i + 1) before)) rest e
     total fails (skip_new_column flags before i first rest total c.loop-flag-test.true begins.0 inv.1))
 
 pub loop-flag-preserved : goal.loop-flag-preserved
 loop-flag-preserved c = λ before left h.
     let flags = c.args.flags.now in
     let i = c.loop-flag.flag-index in
-    let flag = get_or flags i 0 in
-    let old = c.loop-flag.old_rest.now in
     let rest = c.loop-flag.rest.now in
     let first = field_seen c.in_ok-field.field in
     let inv = c.loop-flag.invariant before left h in
     let total = bytes_after (record_at (new_rules flags before) c.args.bytes.now) in
-    let old_reads : field_at (old_rule flag) old ≡ Ok (first, c.in_ok-field.old_after.now) =
-    sym (ap (λ r. field_at r old) c.rule_by_flag.ensures) ∙ c.in_ok-field.ensures.read in
-    let begins = field_begins (old_rule flag) (map old_rule (drop (i + 1) flags)) old first c.in_ok-field.old_after.now
-    (drop i before) left old_reads (old_column flags i old (Ok (drop i before, left)) c.loop-flag-test.true inv.0)
-    in
+    let begins = old_begins (goal.at.loop-flag-preserved c).In_ok-field before left inv.0 in
+    let flag = get_or flags i 0 in
     let reads =
     sym (same_field (rule_of c.rule_by_old.result) (new_rule flag first) rest
     (λ byte. c.rule_by_old.ensures byte first (sym c.has_value.ensures))) ∙ c.in_ok-after.ensures.read in (

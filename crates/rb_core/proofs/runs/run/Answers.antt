@@ -22,36 +22,20 @@ keeps : (c : goal.After-served) (r : State × Vec Answer)
 keeps c r both = c.runs_keep_the_headline.ensures c.args.config c.args.schema c.args.events.now r.1.items r.0
     (record { ranges = in_range c; feeds = both.1; run = both.0 })
 
-pub returns-clause-run : goal.returns-clause-run
-returns-clause-run c = on_ok _ _ c.served.result (λ r both. both.0) c.served.ensures
-
-pub returns-clause-gapless : goal.returns-clause-gapless
-returns-clause-gapless c = on_ok _ _ c.served.result
-    (λ r both s subscriber found. (
-      (keeps c r both).gapless s subscriber found,
-      mapped_in endpoint_of _ r.0.endpoints (keeps c r both).endpoints s subscriber found,
-    )) c.served.ensures
-
-pub returns-clause-endpoints : goal.returns-clause-endpoints
-returns-clause-endpoints c = on_ok _ _ c.served.result (λ r both. (keeps c r both).endpoints) c.served.ensures
-
-pub returns-clause-in_order : goal.returns-clause-in_order
-returns-clause-in_order c = on_ok _ _ c.served.result (λ r both. (keeps c r both).in_order) c.served.ensures
-
-pub returns-clause-once : goal.returns-clause-once
-returns-clause-once c = on_ok _ _ c.served.result (λ r both. (keeps c r both).once) c.served.ensures
-
-pub returns-clause-sent : goal.returns-clause-sent
-returns-clause-sent c = on_ok _ _ c.served.result (λ r both. (keeps c r both).sent) c.served.ensures
-
-pub returns-clause-streams : goal.returns-clause-streams
-returns-clause-streams c = on_ok _ _ c.served.result (λ r both. (keeps c r both).streams) c.served.ensures
-
-pub returns-clause-closed : goal.returns-clause-closed
-returns-clause-closed c = on_ok _ _ c.served.result (λ r both. (keeps c r both).closed) c.served.ensures
-
-pub returns-clause-left : goal.returns-clause-left
-returns-clause-left c = on_ok _ _ c.served.result (λ r both. (keeps c r both).left) c.served.ensures
-
-pub returns-clause-tables : goal.returns-clause-tables
-returns-clause-tables c = on_ok _ _ c.served.result (λ r both. (keeps c r both).tables) c.served.ensures
+pub returns : goal.returns
+returns c = record {
+  run = on_ok _ _ c.served.result (λ r both. both.0) c.served.ensures;
+  gapless = on_ok _ _ c.served.result
+      (λ r both s subscriber found. (
+        (keeps c r both).gapless s subscriber found,
+        mapped_in endpoint_of _ r.0.endpoints (keeps c r both).endpoints s subscriber found,
+      )) c.served.ensures;
+  endpoints = on_ok _ _ c.served.result (λ r both. (keeps c r both).endpoints) c.served.ensures;
+  in_order = on_ok _ _ c.served.result (λ r both. (keeps c r both).in_order) c.served.ensures;
+  once = on_ok _ _ c.served.result (λ r both. (keeps c r both).once) c.served.ensures;
+  sent = on_ok _ _ c.served.result (λ r both. (keeps c r both).sent) c.served.ensures;
+  streams = on_ok _ _ c.served.result (λ r both. (keeps c r both).streams) c.served.ensures;
+  closed = on_ok _ _ c.served.result (λ r both. (keeps c r both).closed) c.served.ensures;
+  left = on_ok _ _ c.served.result (λ r both. (keeps c r both).left) c.served.ensures;
+  tables = on_ok _ _ c.served.result (λ r both. (keeps c r both).tables) c.served.ensures;
+}

@@ -1,4 +1,4 @@
-use Rattle.std.proofs.Common.{◌≡◌, ◌∙◌, ◌≤◌, refl, None, ap, sym, subst, arith, map, slice_get}
+use Rattle.std.proofs.Common.{◌≡◌, ◌∙◌, ◌≤◌, refl, ap, sym, subst, arith, map, slice_get}
 use Rattle.std.proofs.Common.{slice_set}
 use Rattle.std.proofs.lemmas.Option.{get_or_from_slice_get, slice_get_within}
 use Rattle.rb_deliveries.specs.declared.sub.Sub.{Sub}
@@ -9,8 +9,7 @@ use Rattle.std.specs.List.{AllByRecursion}
 use Rattle.rb_deliveries.specs.Subs.{AreGiven, IsDrawn, IsGiven}
 use Rattle.rb_deliveries.proofs.subs.KnownLaws.{all_get, all_set}
 use Rattle.rb_deliveries.proofs.orders.Line.{all_then}
-use Rattle.rb_deliveries.specs.Waiting.{FirstPast}
-use Rattle.rb_deliveries.proofs.orders.DueLaws.{past_has_due, map_expired, none_left, due_after, all_expired}
+use Rattle.rb_deliveries.proofs.orders.DueLaws.{past_has_due, map_expired, none_left, due_after, none_past}
 use Rattle.rb_deliveries.proofs.orders.DueLaws.{waiting_after, given_expired_sub, due_part}
 use Rattle.rb_deliveries.proofs.orders.DueLaws.{set_there}
 use Rattle.rb_deliveries.proofs.kept.expire_due.Goals as goal
@@ -133,15 +132,13 @@ loop-past-preserved c =
 pub returns-clause-many : goal.returns-clause-many
 returns-clause-many c =
     let i = c.loop-past.invariant in
-    let tickets : Held → Ticket = by_number (turns_from c.args.latest.front c.args.latest.turn) in
-    let none = subst (λ ts. FirstPast c.args.timeout c.args.clock ts None) i.waiting.in_flight
-    (subst (FirstPast c.args.timeout c.args.clock c.loop-past.moments) c.in_default.is i.past) in
-    omega (arith, i.many, (all_expired c.args.timeout c.args.clock tickets c.loop-past.subs.items none).1)
+    let none = none_past c.args.timeout c.args.clock (λ h. h.ticket) c.loop-past.subs.items c.loop-past.moments
+    c.loop-past.past i.waiting.in_flight i.past c.in_default.is in
+    omega (arith, i.many, none.1)
 
 pub returns-clause-subs : goal.returns-clause-subs
 returns-clause-subs c =
     let i = c.loop-past.invariant in
     let tickets : Held → Ticket = by_number (turns_from c.args.latest.front c.args.latest.turn) in
-    let none = subst (λ ts. FirstPast c.args.timeout c.args.clock ts None) i.waiting.in_flight
-    (subst (FirstPast c.args.timeout c.args.clock c.loop-past.moments) c.in_default.is i.past) in
-    sym (all_expired c.args.timeout c.args.clock tickets c.loop-past.subs.items none).0 ∙ i.subs
+    sym (none_past c.args.timeout c.args.clock tickets c.loop-past.subs.items c.loop-past.moments c.loop-past.past
+    i.waiting.in_flight i.past c.in_default.is).0 ∙ i.subs

@@ -5,24 +5,29 @@ use Rattle.broker_c.proofs.Steps.{regoal, suffices, done, agg, no_more, and_then
 use Rattle.broker_c.proofs.Steps.{pass_all, free_all, look_at, get, sets, yes, type_at, nothing, says, Stays}
 use Rattle.broker_c.proofs.Steps.{stay_dropped, walk_of, ends_at, Goes-dropped, proved_at, handle_tells, false}
 use Rattle.broker_c.proofs.Steps.{null_ptr, ptr_val, vstruct, of_list, Valss, within, shape, fields, to, and_tt, has_ty}
-use Rattle.broker_c.proofs.Steps.{α, lit<}
-use Rattle.broker_c.proofs.AsBox.{SealBx, Alloc}
-use Rattle.broker_c.specs.Seal.{no_world}
+use Rattle.broker_c.proofs.Steps.{α, lit<, plain}
+use Rattle.rb_core.specs.State.{empty_world}
+use Rattle.rb_core.specs.contracts.world.World as World
+use Rattle.broker_c.proofs.AsBox.{SealBx}
 use Rattle.broker_c.specs.contracts.seal.Seal as Seal
 use Rattle.broker_c.specs.contracts.seal.Seal.none as F
 use Rattle.broker_c.specs.contracts.seal.Seal.none.Key.{name as #self}
 use Rattle.broker_c.proofs.seal.Seal.none.Statement.{statement}
 use Rattle.broker_c.proofs.seal.Seal.none.Code as code
 
+-- what the ghost of an empty seal is: any world
+abbrev no_world : World.the_row.Denot
+no_world = empty_world (record { batch = 1; window = 1; timeout = 1; capacity = 1; intake = 1; appliers = 1 }) []
+
 abbrev stayed : Stays F.ended.signature.params F.ended.kept
-stayed = (stay_dropped Alloc yes, tt)
+stayed = (stay_dropped (plain (λ _. SealBx.al.row)) yes, tt)
 
 pub none_spec : {M : Type 1} → statement M
 none_spec 𝓤 𝓛 𝓜 𝓡 wired =
     let c = F.clauses 𝓛 𝓜.mem 𝓡.returns in
     let 𝓣 = tables 𝓤 𝓛.H 𝓜 𝓡 𝓡.env in
-    proved_at 𝓛 F.ended stayed c 𝓜 𝓡 (Goes-dropped 𝓛 0 Alloc yes (λ κs x f. refl), tt) #self code.function
-    (code.unfolded 𝓤 𝓛.H 𝓜 𝓡 wired) (λ z are.
+    proved_at 𝓛 F.ended stayed c 𝓜 𝓡 (Goes-dropped 𝓛 0 (plain (λ _. SealBx.al.row)) yes (λ κs x f. refl), tt) #self
+    code.function (code.unfolded 𝓤 𝓛.H 𝓜 𝓡 wired) (λ z are.
     let Post = (walk_of 𝓛 F.ended stayed c).post z in
     let a = z.0.3.0 in
     let To = type_at F.signature.result tt in

@@ -1,39 +1,19 @@
 -- Two fields move into the slot, and what they own goes with them.
-use Rattle.broker_c.proofs.Steps.{refl, List, [], ◌∷◌, ◌++◌, Val, emp, id⊢, ftrue, fsep, tables, WpFn, ‵, raw, ◌⊛◌}
-use Rattle.broker_c.proofs.Steps.{prop, ◌$◌, ◌∵◌, !, qed, move, drop, use1, join, split, fsplit, fjoin, regoal}
-use Rattle.broker_c.proofs.Steps.{suffices, done, whole, sub, agg, stop, fld, no_more, and_then, of_opd, returns, enter}
-use Rattle.broker_c.proofs.Steps.{alloc_all, pass_all, free_all, look_at, get, get_in, sets, yes, type_at, nothing}
-use Rattle.broker_c.proofs.Steps.{says, Stays, stay_dropped, walk_of, ends_at, Goes-dropped, proved_at, D, B, word}
-use Rattle.broker_c.proofs.Steps.{box_typed, box_out, box_in, true}
-use Rattle.broker_c.proofs.AsSlot.{SlotBx, SlotParts}
-use Rattle.broker_c.specs.contracts.slot.Slot.of_parts as F
+use base.Logic.{snd∗}
+use Rattle.broker_c.proofs.Steps.{◌≡◌, refl, emp, true}
+use Rattle.broker_c.proofs.AsSlot.{SlotBx}
+use Rattle.broker_c.proofs.Boxes.{parts_name, parts_row}
+use Rattle.broker_c.proofs.Passing.{passes_on}
+use Rattle.broker_c.specs.contracts.slot.Slot as Slot
 use Rattle.broker_c.specs.contracts.slot.Slot.of_parts.Key.{name as #self}
 use Rattle.broker_c.proofs.slot.Slot.of_parts.Statement.{statement}
 use Rattle.broker_c.proofs.slot.Slot.of_parts.Code as code
 
-abbrev stayed : Stays F.ended.signature.params F.ended.kept
-stayed = (stay_dropped SlotParts yes, tt)
-
 pub of_parts_spec : {M : Type 1} → statement M
 of_parts_spec 𝓤 𝓛 𝓜 𝓡 wired =
-    let c = F.clauses 𝓛 𝓜.mem 𝓡.returns in
-    let 𝓣 = tables 𝓤 𝓛.H 𝓜 𝓡 𝓡.env in
-    proved_at 𝓛 F.ended stayed c 𝓜 𝓡 (Goes-dropped 𝓛 0 SlotParts yes (λ κs x f. refl), tt) #self code.function
-    (code.unfolded 𝓤 𝓛.H 𝓜 𝓡 wired) (λ z are.
-    let Post = (walk_of 𝓛 F.ended stayed c).post z in
-    let v : D SlotBx = record { ptr = z.0.3.0.pointer; alloc = z.0.3.0.alloc; value = z.0.3.0.value } in
-    let To = type_at F.signature.result tt in
-    let made : To.Denot = record { pointer = v.ptr; alloc = v.alloc; full = true; held = v.value } in
-    qed 𝓛 ((‵ ftrue ⊛ ‵ (fsep ((B SlotBx).own_val v z.0.4.0) ftrue)) ∷ raw (emp 𝓤) ∷ []) ∵
-    split ! $ drop ! $ fsplit ! $ box_out SlotBx ! v z.0.4.0 (λ b o h e is fits. box_in SlotBx ! v b o v.value e refl $
-    use1 𝓛 (‵ (To.own_val made (word SlotBx h b o ∷ []))) (id⊢ 𝓤 _) $ move ! (1 ∷ 2 ∷ []) $ drop ! $ drop ! $
-    let w = word SlotBx h b o in
-    regoal ! (λ (us : List Val). prop (WpFn 𝓤 𝓛.H 𝓣.C 𝓣.Λ code.function (us ++ []) Post)) is refl $
-    enter ! 𝓣.C 𝓣.Λ code.function (w ∷ []) _ $ alloc_all ! (λ ls. pass_all ! refl (box_typed SlotBx h b o fits, tt) $
-    sets ! (of_opd ! (get_in ! (fld ! refl (stop !)) (sub ! 0 refl (whole !)))) refl (tt, tt) $
-    sets ! (of_opd ! (get_in ! (fld ! refl (stop !)) (sub ! 1 refl (whole !)))) refl fits $
-    sets ! (of_opd ! (get ! refl)) refl (tt, tt) $
-    sets ! (agg ! (and_then ! (get ! refl) (and_then ! (get ! refl) (no_more !)))) refl (box_typed SlotBx h b o fits) $
-    returns ! (look_at ! 0 refl) $ free_all ! refl $
-    suffices ! _ (ends_at 𝓛 F.ended stayed c z w made (tt, tt) (tt, tt)) $ says ! (refl, refl) $
-    nothing ! $ nothing ! $ fjoin ! $ join ! $ nothing ! $ join ! $ done !)))
+    passes_on SlotBx (parts_row SlotBx.row) Slot.the_row
+    (λ p. record { ptr = p.pointer; alloc = p.alloc; value = p.value })
+    (λ p. record { pointer = p.pointer; alloc = p.alloc; full = true; held = p.value })
+    Slot.the_type.name (parts_name SlotBx.row) 𝓤 𝓛 𝓜 𝓡 #self (code.unfolded 𝓤 𝓛.H 𝓜 𝓡 wired) (λ κs x f. refl)
+    (λ p. tt) (λ p. emp 𝓤) (λ p r. (r.full ≡ true) × (r.held ≡ p.value)) (λ p vs. snd∗ 𝓤 (emp 𝓤) _) (λ p vs. refl)
+    (λ p. (refl, refl))

@@ -1,4 +1,4 @@
-use Rattle.std.proofs.Common.{◌≡◌, ◌∷◌, ◌++◌, [], Some, None, slice_get, refl, sym, ap, ◌∙◌}
+use Rattle.std.proofs.Common.{◌≡◌, ◌∷◌, ◌++◌, [], Some, None, slice_get, refl, sym, ap, rules, ◌∙◌}
 use Rattle.std.specs.List.{position_or_len}
 use Rattle.std.specs.Map.{lookup, keys_of}
 use Rattle.indexmap.proofs.CallerLemmas.{insert_entry-new}
@@ -8,21 +8,8 @@ use Rattle.cs_apply.specs.Steps.{rows_of, put}
 use Rattle.cs_apply.proofs.stored.Log.{Back-push}
 use Rattle.cs_apply.proofs.places.Places.insert.Goals as goal
 
-pub returns-in-Vacant-clause-ok : goal.returns-in-Vacant-clause-ok
-returns-in-Vacant-clause-ok c =
-    let e = c.in_ok-end.ensures in
-    let old = c.args.self.now.rows in
-    let none = rw c.in-Vacant.is at e.found in
-    let same = rw c.in-Vacant.is at e.same_map in
-    let is = c.self-in-Vacant-2-1.given.1 (sym same) in
-    let put = rw c.in-Vacant.is at (e.update.1 c.insert.result.now) in
-    let pushed : c.self-in-Vacant-2-1.given.0.entries ≡ old.entries ++ (c.args.key, Some c.args.row) ∷ [] =
-    ap (λ m. m.entries) is ∙ put ∙ insert_entry-new same_key old c.args.key c.insert.result.now none
-    ∙ ap (λ v. old.entries ++ (c.args.key, v) ∷ []) c.insert.ensures.value in
-    put_new old.entries _ c.args.key c.args.row e.unique none pushed
-
-pub returns-in-Vacant-clause-back : goal.returns-in-Vacant-clause-back
-returns-in-Vacant-clause-back c =
+pub returns-in-Vacant : goal.returns-in-Vacant
+returns-in-Vacant c =
     let e = c.in_ok-end.ensures in
     let old = c.args.self.now.rows in
     let none = rw c.in-Vacant.is at e.found in
@@ -31,7 +18,12 @@ returns-in-Vacant-clause-back c =
     let put = rw c.in-Vacant.is at (e.update.1 c.insert.result.now) in
     let pushed : c.self-in-Vacant-2-1.given.0.entries ≡ old.entries ++ (c.args.key, c.insert.result.now) ∷ [] =
     ap (λ m. m.entries) is ∙ put ∙ insert_entry-new same_key old c.args.key c.insert.result.now none in
-    Back-push c.args.self.now _ (c.args.key, c.insert.result.now) pushed refl
+    record {
+      ok = put_new old.entries _ c.args.key c.args.row e.unique none
+          (pushed ∙ ap (λ v. old.entries ++ (c.args.key, v) ∷ []) c.insert.ensures.value);
+      back = Back-push c.args.self.now _ (c.args.key, c.insert.result.now) pushed refl;
+      refused = search rules;
+    }
 
 pub returns-then-is_some-clause-refused : goal.returns-then-is_some-clause-refused
 returns-then-is_some-clause-refused c =

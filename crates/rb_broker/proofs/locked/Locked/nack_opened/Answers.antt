@@ -1,12 +1,10 @@
-use Rattle.rb_broker.proofs.HoldLaws.{holds_on, step_keeps}
+use Rattle.rb_broker.proofs.HoldLaws.{own_step_holds}
 use Rattle.rb_broker.proofs.locked.Locked.nack_opened.Goals as goal
 
 -- what the lock says of the desk goes on, with one own step more
 pub invariant_of-self-2 : goal.invariant_of-self-2
 invariant_of-self-2 g c =
     let old = c.args.self.now in
-    let keeps = step_keeps old.desk c.nack_opened.new.self _ _ (λ desk x p. c.steps_are_counted.ensures.own desk x p)
-    (c.only_subscribe_and_close.ensures.nack_opened old.desk.picture _ _ _) c.in_ok-count.ensures.1 in
-    let k = holds_on g.L.StepLedger.cells _ _ _ old.closing _ _ keeps c.count.ensures.total
-    (record { fits = old.fits; closes = old.closes; total = old.total; made = old.made }) in
-    record { fits = k.fits; fills = old.fills; closes = k.closes; all = old.all; total = k.total; made = k.made }
+    own_step_holds old.desk _ old.closing c.steps_are_counted.ensures.own
+    (c.only_subscribe_and_close.ensures.nack_opened _ _ _ _) c.in_ok-count.ensures.1 c.count.ensures.total
+    old.fits old.fills old.closes old.all old.total old.made

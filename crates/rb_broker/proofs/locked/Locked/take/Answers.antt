@@ -2,18 +2,16 @@ use Rattle.std.proofs.Common.{◌∙◌, Result, ap}
 use Rattle.rb_desk.specs.Calls.{take}
 use Rattle.rb_desk.specs.declared.delivery.Delivery.{Delivery}
 use Rattle.rb_desk.specs.declared.refusal.DeskRefusal.{DeskRefusal}
-use Rattle.rb_broker.proofs.HoldLaws.{answered, holds_on, step_keeps}
+use Rattle.rb_broker.proofs.HoldLaws.{answered, own_step_holds}
 use Rattle.rb_broker.proofs.locked.Locked.take.Goals as goal
 
 -- what the lock says of the desk goes on, with one own step more
 pub invariant_of-self : goal.invariant_of-self
 invariant_of-self g c =
     let old = c.args.self.now in
-    let keeps = step_keeps old.desk c.take.new.self _ _ (λ desk x p. c.steps_are_counted.ensures.own desk x p)
-    (c.only_subscribe_and_close.ensures.take old.desk.picture _ _ _ _) c.in-Ok.ensures.1 in
-    let k = holds_on g.L.StepLedger.cells _ _ _ old.closing _ _ keeps c.count.ensures.total
-    (record { fits = old.fits; closes = old.closes; total = old.total; made = old.made }) in
-    record { fits = k.fits; fills = old.fills; closes = k.closes; all = old.all; total = k.total; made = k.made }
+    own_step_holds old.desk _ old.closing c.steps_are_counted.ensures.own
+    (c.only_subscribe_and_close.ensures.take _ _ _ _ _) c.in-Ok.ensures.1 c.count.ensures.total
+    old.fits old.fills old.closes old.all old.total old.made
 
 -- the delivery is of its subscription
 pub returns-in-Ok-clause-of : goal.returns-in-Ok-clause-of

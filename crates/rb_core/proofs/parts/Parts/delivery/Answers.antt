@@ -1,7 +1,6 @@
-use Rattle.std.proofs.Common.{◌≡◌, ◌∙◌, ◌==◌, find, ap, sym, arith, subst}
+use Rattle.std.proofs.Common.{◌∙◌, ap, sym, arith}
 use Rattle.rb_desk.specs.declared.delivery.Delivery.{Delivery}
 use Rattle.rb_core.specs.State.{State}
-use Rattle.rb_sequence.specs.Items.{AreNumbered}
 use Rattle.rb_core.proofs.invariants.Numbers.{none_below, found_by_place}
 use Rattle.rb_core.proofs.parts.Parts.delivery.Goals as goal
 
@@ -13,9 +12,6 @@ returns-in_err-place c =
 
 pub returns : goal.returns
 returns c =
-    let same : c.deref.result.now ≡ c.args.self.now.deliveries = c.deref.ensures.value
-    ∙ ap (λ (w : State). w.deliveries) c.self.view_is in
-    let are = subst (AreNumbered (λ (d : Delivery). d.number) 1) (sym same) c.requires in
-    found_by_place (λ (d : Delivery). d.number) c.deref.result.now c.args.number c.in_ok-place.place c.get.result are
-    c.in_ok-place.ensures.0 c.in_ok-place.ensures.1 c.get.ensures.lookup
-    ∙ ap (find (λ (d : Delivery). d.number == c.args.number)) same
+    found_by_place (λ (d : Delivery). d.number) c.deref.result.now c.args.self.now.deliveries c.args.number
+    c.in_ok-place.place c.get.result (c.deref.ensures.value ∙ ap (λ (w : State). w.deliveries) c.self.view_is)
+    c.requires c.in_ok-place.ensures.0 c.in_ok-place.ensures.1 c.get.ensures.lookup

@@ -1,7 +1,6 @@
-use Rattle.std.proofs.Common.{◌≡◌, ◌∙◌, ◌==◌, find, ap, sym, arith, subst}
+use Rattle.std.proofs.Common.{◌∙◌, ap, sym, arith}
 use Rattle.rb_sequence.specs.Entry.{Entry}
 use Rattle.rb_core.specs.State.{State}
-use Rattle.rb_sequence.specs.Items.{AreNumbered}
 use Rattle.rb_core.proofs.invariants.Numbers.{none_below, found_by_place}
 use Rattle.rb_core.proofs.invariants.Worlds.{found_admitted}
 use Rattle.rb_core.proofs.parts.Parts.placed.Goals as goal
@@ -14,12 +13,9 @@ returns-in_err-place-clause-entry c =
 
 pub returns-clause-entry : goal.returns-clause-entry
 returns-clause-entry c =
-    let same : c.deref.result.now ≡ c.args.self.now.sequence = c.deref.ensures.value
-    ∙ ap (λ (w : State). w.sequence) c.self.view_is in
-    let are = subst (AreNumbered (λ (e : Entry). e.number) 1) (sym same) c.requires in
-    found_by_place (λ (e : Entry). e.number) c.deref.result.now c.args.number c.in_ok-place.place c.get.result are
-    c.in_ok-place.ensures.0 c.in_ok-place.ensures.1 c.get.ensures.lookup
-    ∙ ap (find (λ (e : Entry). e.number == c.args.number)) same
+    found_by_place (λ (e : Entry). e.number) c.deref.result.now c.args.self.now.sequence c.args.number
+    c.in_ok-place.place c.get.result (c.deref.ensures.value ∙ ap (λ (w : State). w.sequence) c.self.view_is)
+    c.requires c.in_ok-place.ensures.0 c.in_ok-place.ensures.1 c.get.ensures.lookup
 
 pub returns-clause-admitted : goal.returns-clause-admitted
 returns-clause-admitted c = found_admitted c.args.self.now.schema c.args.self.now.sequence c.args.number c.get.result

@@ -1,4 +1,4 @@
-use Rattle.std.proofs.Common.{◌≡◌, ◌∙◌, ◌==◌, find, ap, sym, arith, subst}
+use Rattle.std.proofs.Common.{◌∙◌, ap, sym, arith, subst}
 use Rattle.rb_sequence.specs.Entry.{Entry}
 use Rattle.rb_core.specs.State.{State}
 use Rattle.rb_sequence.specs.Items.{AreNumbered}
@@ -16,14 +16,10 @@ returns-in_err-place c =
 
 pub returns : goal.returns
 returns c =
-    let same : c.deref.result.now ≡ c.args.self.now.sequence =
-    c.deref.ensures.value
-    ∙ ap (λ (i : Inside). i.parts.sequence) c.self-inside.view_is
-    ∙ ap (λ (w : State). w.sequence) c.self.view_is in
-    let are =
-    subst (AreNumbered (λ (e : Entry). e.number) 1) (sym same)
-    (subst (λ (w : State). AreNumbered (λ (e : Entry). e.number) 1 w.sequence) c.self.view_is c.self.invariant.entries)
-    in
-    found_by_place (λ (e : Entry). e.number) c.deref.result.now c.args.number c.in_ok-place.place c.get.result are
-    c.in_ok-place.ensures.0 c.in_ok-place.ensures.1 c.get.ensures.lookup
-    ∙ ap (find (λ (e : Entry). e.number == c.args.number)) same
+    let are = subst (λ (w : State). AreNumbered (λ (e : Entry). e.number) 1 w.sequence) c.self.view_is
+    c.self.invariant.entries in
+    found_by_place (λ (e : Entry). e.number) c.deref.result.now c.args.self.now.sequence c.args.number
+    c.in_ok-place.place c.get.result
+    (c.deref.ensures.value ∙ ap (λ (i : Inside). i.parts.sequence) c.self-inside.view_is
+    ∙ ap (λ (w : State). w.sequence) c.self.view_is)
+    are c.in_ok-place.ensures.0 c.in_ok-place.ensures.1 c.get.ensures.lookup

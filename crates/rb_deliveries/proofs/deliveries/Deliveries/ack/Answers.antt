@@ -3,20 +3,17 @@ use Rattle.rb_deliveries.proofs.pictures.CallLaws.{acks, acked_floor}
 
 pub invariant_of-self : goal.invariant_of-self
 invariant_of-self c =
-    let d = c.self.inside in
-    (acks d.batch d.subs.window d.front d.turn d.next_delivery d.subs.subs c.self.invariant c.rise.ensures
-    c.args.s c.args.span c.settle.new.self (rw (← c.self.view_is) at c.requires.out) c.settle.ensures.kept).0
+    (acks c.self.invariant c.self.inside.subs.window c.rise.ensures c.args.s c.args.span c.settle.new.self
+    (rw (← c.self.view_is) at c.requires.out) c.settle.ensures.kept).0
 
 pub returns-clause-new : goal.returns-clause-new
 returns-clause-new c =
-    let d = c.self.inside in
     rw (← c.self.view_is)
-    (acks d.batch d.subs.window d.front d.turn d.next_delivery d.subs.subs c.self.invariant c.rise.ensures
-    c.args.s c.args.span c.settle.new.self (rw (← c.self.view_is) at c.requires.out) c.settle.ensures.kept).1
+    (acks c.self.invariant c.self.inside.subs.window c.rise.ensures c.args.s c.args.span c.settle.new.self
+    (rw (← c.self.view_is) at c.requires.out) c.settle.ensures.kept).1
 
 pub returns-clause-floor : goal.returns-clause-floor
 returns-clause-floor c =
-    let d = c.self.inside in
     rw (← c.self.view_is)
-    (acked_floor d.batch d.subs.window d.front d.turn d.next_delivery d.subs.subs c.self.invariant c.rise.ensures
-    c.args.s c.args.span c.settle.result (rw (← c.self.view_is) at c.requires.out) c.settle.ensures.floor)
+    (acked_floor c.self.invariant c.self.inside.subs.window c.rise.ensures c.args.s c.args.span c.settle.result
+    (rw (← c.self.view_is) at c.requires.out) c.settle.ensures.floor)

@@ -1,21 +1,13 @@
-use Rattle.std.proofs.Common.{◌≡◌, ◌∙◌, map, subst, sym}
-use Rattle.rb_deliveries.specs.Expiry.{by_number, expired_sub, turns_from}
-use Rattle.rb_deliveries.specs.declared.ticket.Ticket.{Ticket}
+use Rattle.std.proofs.Common.{◌∙◌, sym}
 use Rattle.rb_deliveries.proofs.pictures.CallLaws.{expired_kept, expired_seen}
 use Rattle.rb_deliveries.proofs.pictures.ExpireShown.{expired_count}
 use Rattle.rb_deliveries.proofs.deliveries.Deliveries.expire.Goals as goal
 
 pub invariant_of-self : goal.invariant_of-self
 invariant_of-self c =
-    let d = c.self.inside in
-    let latest : c.latest_ticket-latest.result ≡ record { front = d.front; turn = d.turn } =
-    rw (← c.self.view_is) at c.latest_ticket-latest.ensures in
-    let left = subst (λ (t : Ticket). c.expire-many.new.self ≡ record {
-      window = d.subs.window;
-      subs = map (expired_sub c.args.timeout c.args.clock (by_number (turns_from t.front t.turn))) d.subs.subs;
-    }) latest c.expire-many.ensures.kept in
-    expired_kept d.batch d.subs.window d.front d.turn d.next_delivery d.subs.subs c.self.invariant c.rise.ensures
-    c.args.timeout c.args.clock c.expire-many.new.self left
+    expired_kept c.self.invariant c.self.inside.subs.window c.rise.ensures c.args.timeout c.args.clock
+    c.latest_ticket-latest.result c.expire-many.new.self (rw (← c.self.view_is) at c.latest_ticket-latest.ensures)
+    c.expire-many.ensures.kept
 
 pub returns-clause-many : goal.returns-clause-many
 returns-clause-many c =
@@ -26,13 +18,7 @@ returns-clause-many c =
 
 pub returns-clause-picture : goal.returns-clause-picture
 returns-clause-picture c =
-    let d = c.self.inside in
-    let latest : c.latest_ticket-latest.result ≡ record { front = d.front; turn = d.turn } =
-    rw (← c.self.view_is) at c.latest_ticket-latest.ensures in
-    let left = subst (λ (t : Ticket). c.expire-many.new.self ≡ record {
-      window = d.subs.window;
-      subs = map (expired_sub c.args.timeout c.args.clock (by_number (turns_from t.front t.turn))) d.subs.subs;
-    }) latest c.expire-many.ensures.kept in
     rw (← c.self.view_is)
-    (expired_seen d.batch d.subs.window d.front d.turn d.next_delivery d.subs.subs c.self.invariant c.rise.ensures
-    c.args.timeout c.args.clock c.expire-many.new.self left)
+    (expired_seen c.self.invariant c.self.inside.subs.window c.rise.ensures c.args.timeout c.args.clock
+    c.latest_ticket-latest.result c.expire-many.new.self (rw (← c.self.view_is) at c.latest_ticket-latest.ensures)
+    c.expire-many.ensures.kept)

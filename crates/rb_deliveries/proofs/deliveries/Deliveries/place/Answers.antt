@@ -7,11 +7,11 @@ pub invariant_of-self : goal.invariant_of-self
 invariant_of-self c =
     let d = c.self.inside in
     subst (λ n. DeliveriesAgree d.batch n d.turn d.next_delivery d.subs.subs) (sym (suc_is_more d.front))
-    (placed_kept d.batch d.subs.window d.front d.turn d.next_delivery d.subs.subs c.self.invariant
+    (placed_kept c.self.invariant d.subs.window
     (rw (← c.self.view_is) at c.requires.room))
 
 pub returns : goal.returns
 returns c =
     let d = c.self.inside in
     rw (← c.self.view_is, suc_is_more d.front)
-    (placed_seen d.batch d.subs.window d.front d.turn d.next_delivery d.subs.subs c.self.invariant)
+    (placed_seen c.self.invariant d.subs.window)

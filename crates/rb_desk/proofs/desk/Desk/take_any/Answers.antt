@@ -1,16 +1,10 @@
-use Rattle.std.proofs.Common.{◌≤◌, refl, rules}
-use Rattle.rb_desk.specs.Calls.{take_any}
-use Rattle.rb_desk.specs.Picture.{Picture}
+use Rattle.std.proofs.Common.{refl, rules}
 use Rattle.rb_desk.specs.Steps.{after_step}
-use Rattle.rb_desk.specs.declared.step.Step.TheVariants as step
 use Rattle.rb_desk.proofs.journals.KeepLaws.{call_kept}
 use Rattle.rb_desk.proofs.desk.Desk.take_any.Goals as goal
 
 pub invariant_of-self-2 : goal.invariant_of-self-2
 unfolding after_step
 invariant_of-self-2 c =
-    let p : Picture = c.self.inside.board.picture in
-    let room : 2 ≤ c.reserve.new.self.room = search rules in
-    call_kept c.calls_keep_limits.ensures c.self.inside.board c.take_any.new.self (take_any p c.args.now).1
-    (step.TakeAny c.args.now) c.self.inside.journal c.reserve.new.self c.push.new.self
-    c.self.invariant c.in_ok-delivery.ensures.1 refl c.reserve.ensures.steps room c.push.ensures.steps c.push.ensures.room
+    call_kept _ _ c.reserve.new.self c.calls_keep_limits.ensures c.self.invariant c.in_ok-delivery.ensures.1
+    c.push.ensures.steps c.push.ensures.room c.reserve.ensures.steps refl (search rules)

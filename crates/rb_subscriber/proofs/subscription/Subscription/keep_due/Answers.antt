@@ -75,20 +75,12 @@ returns-in-Ok-clause-kept g c =
 
 pub returns-in-Err-Refused-clause-answers : goal.returns-in-Err-Refused-clause-answers
 returns-in-Err-Refused-clause-answers g c =
-    let cells = g.L.StepLedger.cells in
-    let d = c.args.delivery.now in
     let s = c.self.inside in
-    let shown = c.in_ok-shown.shown.items in
-    let inv = c.self.invariant in
-    let are = subst (λ cs. ShowDelivery cs d shown) c.requires.cells c.in_ok-shown.ensures.ok in
-    let answers = subst (λ (x : KeepError). KeepAnswers (Err x)
-    (accept_brought s.end (entries_told c.deref.result.now) d) s.end c.accept_kept.new.self) c.in-Err-Refused.field-0-is
-    c.in-Err-Refused.ensures.answers in
-    refused_kept cells d s.sub s.steps s.base s.pending s.told.items c.tokens_of.new.told.items shown s.end
-    c.accept_kept.new.self c.in-Err-Refused.why c.args.self.now c.self.view_is c.tokens_of.ensures.same inv.0 inv.3
-    c.requires.free are
-    (subst (λ es. accept_brought s.end es d ≡ Err c.in-Err-Refused.why) (ap entries_told c.deref.ensures.value) answers.0)
-    answers.1
+    refused_kept g.L.StepLedger.cells c.args.sequence.now c.args.delivery.now s.sub s.steps s.base s.pending s.told.items
+    c.tokens_of.new.told.items c.in_ok-shown.shown.items _ s.end c.accept_kept.new.self _ c.in-Err-Refused.why
+    c.args.self.now c.self.view_is c.tokens_of.ensures.same c.self.invariant.0 c.self.invariant.3 c.requires.free
+    c.requires.cells c.in_ok-shown.ensures.ok (ap entries_told c.deref.ensures.value) c.in-Err-Refused.field-0-is
+    c.in-Err-Refused.ensures.answers
 
 pub invariant_of-self-in-Err-Store : goal.invariant_of-self-in-Err-Store
 invariant_of-self-in-Err-Store g c =
