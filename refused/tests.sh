@@ -6,7 +6,7 @@
 #   sh refused/tests.sh CRATE..        needs gcc, and the test programs as `rt test` leaves them in crates/CRATE/out
 # ONLY is a pattern that the tests' names match, where not all are wanted. Some allocate more often than anybody waits for,
 # and one of rb_tests asks for nothing, so it is
-# ONLY='^(desks|groups|lists|runs::runs|streams::(lines|showing|what|write)|texts)' for rb_tests, and
+# ONLY='^tests::(desks|groups|limits::limits|lists|runs::runs|streams::(lines|showing|what|write)|texts)' for rb_tests, and
 # ONLY='^(appliers|cells|rows|tokens|deliveries|subscriptions|finishing|falling|restarts)' for rb_threads. With
 # REFUSE_LEAST only allocations of so many bytes are refused: REFUSE_LEAST=500000 ONLY='^(cells|segments)' refuses each
 # segment of the sequence.

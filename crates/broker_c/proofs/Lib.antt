@@ -1,5 +1,5 @@
 pub mod Steps
 pub mod Boxes
 pub mod AsBox
-pub mod AsSlot
 pub mod Passing
+pub mod Moving

@@ -15,47 +15,41 @@ use Rattle.broker_c.specs.declared.codes.Why.{Why}
 
 -- ---- codes
 
-abbrev pub desk_code : DeskRefusal → ℤ
-desk_code desk.TooMany = negsuc 10
-desk_code desk.Closed = negsuc 13
-desk_code desk.SequenceFull = negsuc 18
-desk_code desk.JournalFull = negsuc 21
-desk_code desk.NoSuch = negsuc 29
-desk_code desk.StaleLink = negsuc 30
-desk_code desk.WindowFull = negsuc 31
-desk_code desk.NotInFlight = negsuc 33
-desk_code (desk.Drained last) = negsuc 35
-desk_code (desk.Empty front) = negsuc 36
-desk_code (desk.NotAccepted cursor) = negsuc 37
-desk_code (desk.BadCursor floor offered) = negsuc 38
-desk_code (desk.StartAhead front) = negsuc 39
-
-abbrev pub accept_code : AcceptRefusal → ℤ
-accept_code accept.Closed = negsuc 13
-accept_code accept.StaleLink = negsuc 30
-accept_code accept.Seen = negsuc 34
-accept_code (accept.Gap expected) = negsuc 40
-accept_code (accept.Shape number) = negsuc 41
-accept_code (accept.Conflict conflict) = negsuc 42
-accept_code accept.Store = negsuc 44
-
 -- The code of a refusal. What means the same in two layers has one code.
 abbrev pub refusal_code : BrokerRefusal → ℤ
 refusal_code refusal.NoPublisher = negsuc 9
 refusal_code refusal.TooMany = negsuc 10
+refusal_code (refusal.Desk desk.TooMany) = negsuc 10
 refusal_code refusal.Holding = negsuc 11
 refusal_code refusal.NothingStaged = negsuc 12
 refusal_code refusal.Closed = negsuc 13
+refusal_code (refusal.Desk desk.Closed) = negsuc 13
+refusal_code (refusal.Accept accept.Closed) = negsuc 13
 refusal_code refusal.Full = negsuc 14
 refusal_code refusal.NotPlaced = negsuc 15
 refusal_code refusal.NotYours = negsuc 16
 refusal_code refusal.AlreadyWithdrawn = negsuc 17
+refusal_code (refusal.Desk desk.SequenceFull) = negsuc 18
 refusal_code (refusal.UnknownTable section) = negsuc 19
 refusal_code (refusal.ShapeDiffers section) = negsuc 20
+refusal_code (refusal.Desk desk.JournalFull) = negsuc 21
+refusal_code (refusal.Desk desk.NoSuch) = negsuc 29
+refusal_code (refusal.Desk desk.StaleLink) = negsuc 30
+refusal_code (refusal.Accept accept.StaleLink) = negsuc 30
+refusal_code (refusal.Desk desk.WindowFull) = negsuc 31
 refusal_code refusal.NoDelivery = negsuc 32
+refusal_code (refusal.Desk desk.NotInFlight) = negsuc 33
+refusal_code (refusal.Accept accept.Seen) = negsuc 34
+refusal_code (refusal.Desk (desk.Drained last)) = negsuc 35
+refusal_code (refusal.Desk (desk.Empty front)) = negsuc 36
+refusal_code (refusal.Desk (desk.NotAccepted cursor)) = negsuc 37
+refusal_code (refusal.Desk (desk.BadCursor floor offered)) = negsuc 38
+refusal_code (refusal.Desk (desk.StartAhead front)) = negsuc 39
+refusal_code (refusal.Accept (accept.Gap expected)) = negsuc 40
+refusal_code (refusal.Accept (accept.Shape number)) = negsuc 41
+refusal_code (refusal.Accept (accept.Conflict conflict)) = negsuc 42
 refusal_code refusal.NotFallen = negsuc 43
-refusal_code (refusal.Desk why) = desk_code why
-refusal_code (refusal.Accept why) = accept_code why
+refusal_code (refusal.Accept accept.Store) = negsuc 44
 
 -- The code of a reply: 0, or 1 for `Idle`, -3 for a fault, and -10 or less for a refusal.
 abbrev pub code : Reply → ℤ

@@ -25,14 +25,7 @@ use Rattle.broker_c.specs.declared.slot.Slot.{Slot}
 
 -- the limits that C passes
 abbrev pub desk_limits : Limits → desk.Limits
-desk_limits c = record {
-  batch = c.batch;
-  window = c.window;
-  timeout = c.timeout;
-  capacity = c.capacity;
-  intake = c.intake;
-  appliers = c.appliers;
-}
+desk_limits c = desk.six_limits c.batch c.window c.timeout c.capacity c.intake c.appliers
 
 -- the first limit that is out of its range
 abbrev pub limits_refusal : Limits → Option ConfigFault

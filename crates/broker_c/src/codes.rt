@@ -40,7 +40,7 @@ pub fn code(reply: &Reply) -> i32
     match reply {
         Reply::Idle => 1,
         Reply::Fault(_) => -3,
-        Reply::Refused(why) => refused(*why).0,
+        Reply::Refused(why) => refusal_code(*why),
         _ => 0,
     }
 }
@@ -51,7 +51,7 @@ pub fn why_after(reply: &Reply, before: Why) -> Why
 {
     match reply {
         Reply::Fault(fault) => fault_why(*fault),
-        Reply::Refused(why) => refused(*why).1,
+        Reply::Refused(why) => refusal_why(*why),
         _ => before,
     }
 }
@@ -70,73 +70,79 @@ fn fault_why(fault: ParseFault) -> Why
     numbers(fault.at as u64, u64::from(fault.kind.number()))
 }
 
-// The code and the numbers of a refusal. What means the same in two layers has one code.
-fn refused(why: BrokerRefusal) -> (i32, Why)
-    ensures code { result.0 ≡ codes.refusal_code why }
-    ensures why { result.1 ≡ codes.refusal_why why }
+// The code of a refusal. What means the same in two layers has one code.
+fn refusal_code(why: BrokerRefusal) -> i32
+    ensures { result ≡ codes.refusal_code why }
 {
+    use BrokerRefusal::{Accept, Desk};
     match why {
-        BrokerRefusal::NoPublisher => coded(-10, 0, 0),
-        BrokerRefusal::TooMany => coded(-11, 0, 0),
-        BrokerRefusal::Holding => coded(-12, 0, 0),
-        BrokerRefusal::NothingStaged => coded(-13, 0, 0),
-        BrokerRefusal::Closed => coded(-14, 0, 0),
-        BrokerRefusal::Full => coded(-15, 0, 0),
-        BrokerRefusal::NotPlaced => coded(NOT_PLACED, 0, 0),
-        BrokerRefusal::NotYours => coded(-17, 0, 0),
-        BrokerRefusal::AlreadyWithdrawn => coded(-18, 0, 0),
-        BrokerRefusal::UnknownTable(section) => coded(-20, section, 0),
-        BrokerRefusal::ShapeDiffers(section) => coded(-21, section, 0),
-        BrokerRefusal::NoDelivery => coded(-33, 0, 0),
-        BrokerRefusal::NotFallen => coded(-44, 0, 0),
-        BrokerRefusal::Desk(why) => refused_by_desk(why),
-        BrokerRefusal::Accept(why) => refused_by_accept(why),
+        BrokerRefusal::NoPublisher => -10,
+        BrokerRefusal::TooMany | Desk(DeskRefusal::TooMany) => -11,
+        BrokerRefusal::Holding => -12,
+        BrokerRefusal::NothingStaged => -13,
+        BrokerRefusal::Closed | Desk(DeskRefusal::Closed) | Accept(AcceptRefusal::Closed) => -14,
+        BrokerRefusal::Full => -15,
+        BrokerRefusal::NotPlaced => NOT_PLACED,
+        BrokerRefusal::NotYours => -17,
+        BrokerRefusal::AlreadyWithdrawn => -18,
+        Desk(DeskRefusal::SequenceFull) => -19,
+        BrokerRefusal::UnknownTable(_) => -20,
+        BrokerRefusal::ShapeDiffers(_) => -21,
+        Desk(DeskRefusal::JournalFull) => -22,
+        Desk(DeskRefusal::NoSuch) => NO_SUBSCRIPTION,
+        Desk(DeskRefusal::StaleLink) | Accept(AcceptRefusal::StaleLink) => -31,
+        Desk(DeskRefusal::WindowFull) => -32,
+        BrokerRefusal::NoDelivery => -33,
+        Desk(DeskRefusal::NotInFlight) => -34,
+        Accept(AcceptRefusal::Seen) => -35,
+        Desk(DeskRefusal::Drained { .. }) => -36,
+        Desk(DeskRefusal::Empty { .. }) => -37,
+        Desk(DeskRefusal::NotAccepted { .. }) => -38,
+        Desk(DeskRefusal::BadCursor { .. }) => -39,
+        Desk(DeskRefusal::StartAhead { .. }) => -40,
+        Accept(AcceptRefusal::Gap { .. }) => -41,
+        Accept(AcceptRefusal::Shape { .. }) => -42,
+        Accept(AcceptRefusal::Conflict(_)) => -43,
+        BrokerRefusal::NotFallen => -44,
+        Accept(AcceptRefusal::Store) => -45,
     }
 }
 
-fn refused_by_desk(why: DeskRefusal) -> (i32, Why)
-    ensures code { result.0 ≡ codes.desk_code why }
-    ensures why { result.1 ≡ codes.desk_why why }
+// the numbers of a refusal
+fn refusal_why(why: BrokerRefusal) -> Why
+    ensures { result ≡ codes.refusal_why why }
 {
     match why {
-        DeskRefusal::TooMany => coded(-11, 0, 0),
-        DeskRefusal::Closed => coded(-14, 0, 0),
-        DeskRefusal::SequenceFull => coded(-19, 0, 0),
-        DeskRefusal::JournalFull => coded(-22, 0, 0),
-        DeskRefusal::NoSuch => coded(NO_SUBSCRIPTION, 0, 0),
-        DeskRefusal::StaleLink => coded(-31, 0, 0),
-        DeskRefusal::WindowFull => coded(-32, 0, 0),
-        DeskRefusal::NotInFlight => coded(-34, 0, 0),
-        DeskRefusal::Drained { last } => coded(-36, last, 0),
-        DeskRefusal::Empty { front } => coded(-37, front, 0),
-        DeskRefusal::NotAccepted { cursor } => coded(-38, cursor, 0),
-        DeskRefusal::BadCursor { floor, offered } => coded(-39, floor, offered),
-        DeskRefusal::StartAhead { front } => coded(-40, front, 0),
+        BrokerRefusal::UnknownTable(section) => numbers(section, 0),
+        BrokerRefusal::ShapeDiffers(section) => numbers(section, 0),
+        BrokerRefusal::Desk(why) => desk_why(why),
+        BrokerRefusal::Accept(why) => accept_why(why),
+        _ => numbers(0, 0),
     }
 }
 
-fn refused_by_accept(why: AcceptRefusal) -> (i32, Why)
-    ensures code { result.0 ≡ codes.accept_code why }
-    ensures why { result.1 ≡ codes.accept_why why }
+fn desk_why(why: DeskRefusal) -> Why
+    ensures { result ≡ codes.desk_why why }
 {
     match why {
-        AcceptRefusal::Closed => coded(-14, 0, 0),
-        AcceptRefusal::StaleLink => coded(-31, 0, 0),
-        AcceptRefusal::Seen => coded(-35, 0, 0),
-        AcceptRefusal::Gap { expected } => coded(-41, expected, 0),
-        AcceptRefusal::Shape { number } => coded(-42, number, 0),
+        DeskRefusal::Drained { last } => numbers(last, 0),
+        DeskRefusal::Empty { front } | DeskRefusal::StartAhead { front } => numbers(front, 0),
+        DeskRefusal::NotAccepted { cursor } => numbers(cursor, 0),
+        DeskRefusal::BadCursor { floor, offered } => numbers(floor, offered),
+        _ => numbers(0, 0),
+    }
+}
+
+// of a conflict: the change's place, and SQLite's number of the kind
+fn accept_why(why: AcceptRefusal) -> Why
+    ensures { result ≡ codes.accept_why why }
+{
+    match why {
+        AcceptRefusal::Gap { expected } => numbers(expected, 0),
+        AcceptRefusal::Shape { number } => numbers(number, 0),
         AcceptRefusal::Conflict(conflict) => {
-            let kind = u64::from(conflict.kind.code());
-            coded(-43, conflict.position as u64, kind)
+            numbers(conflict.position as u64, u64::from(conflict.kind.code()))
         }
-        AcceptRefusal::Store => coded(-45, 0, 0),
+        _ => numbers(0, 0),
     }
-}
-
-// a refusal's code and its numbers
-fn coded(code: i32, first: u64, second: u64) -> (i32, Why)
-    ensures code { result.0 ≡ code }
-    ensures why { result.1 ≡ record { first = first; second = second } }
-{
-    (code, numbers(first, second))
 }

@@ -27,17 +27,6 @@ pub(crate) enum OpenError {
     Memory,
 }
 
-impl From<AllocError> for OpenError {
-    ghost use Rattle.std.specs.Prelude.{◌≡◌};
-    ghost use Rattle.broker_c.specs.declared.opening.OpenError.TheVariants.{Memory};
-
-    ghost from_gives = { λ _ e. e ≡ Memory };
-
-    fn from(_: AllocError) -> OpenError {
-        OpenError::Memory
-    }
-}
-
 // the tables as a schema
 fn schema_of(alloc: Global, tables: &[Table]) -> Result<Schema, OpenError>
     ensures ok { IfOk result (λ schema. schema ≡ opening.table_shapes tables.now) }
@@ -45,7 +34,10 @@ fn schema_of(alloc: Global, tables: &[Table]) -> Result<Schema, OpenError>
         tables_refusal [] (opening.table_shapes tables.now) ≡ None) }
     ensures refused { IfErr result (λ error. RefusesSchema error tables.now) }
 {
-    Schema::new(shapes_of(alloc, tables)?).map_err(|refused| OpenError::Table(refused.fault))
+    let Ok(shapes) = shapes_of(alloc, tables) else {
+        return Err(OpenError::Memory);
+    };
+    Schema::new(shapes).map_err(|refused| OpenError::Table(refused.fault))
 }
 
 // a handle over an empty world, in a box
@@ -70,7 +62,7 @@ pub(crate) fn opened(
         Err(fault) => return Err(OpenError::Limit(fault)),
     };
     let schema = schema_of(alloc, tables)?;
-    Ok(begun(alloc, config, schema)?)
+    begun(alloc, config, schema).map_err(|_| OpenError::Memory)
 }
 
 /// Opens a broker without publishers, entries and subscriptions, and sets `out` to its handle. It

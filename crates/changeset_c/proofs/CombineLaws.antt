@@ -13,7 +13,7 @@ use Rattle.changeset_c.specs.Combining.{texts_of, SpellAll, HasTextFault, HasCla
 use Rattle.changeset_c.specs.declared.combining.CombineError.{CombineError}
 use Rattle.changeset_c.specs.declared.combining.CombineError.TheVariants.{Fault, Clash, Memory}
 use Rattle.changeset_c.specs.Combining.{AreReadSo, IsReadSo}
-use Rattle.changeset_c.specs.Combining.{IsCutBy, ReadUntil, IsFirstClash, Refuses, ReportsFirstClash}
+use Rattle.changeset_c.specs.Combining.{SpellUntil, ReadUntil, IsFirstClash, Refuses, ReportsFirstClash}
 use Rattle.cs_parse.specs.FaultNumber.{kind_number}
 
 -- ---- texts that spell changesets
@@ -26,29 +26,22 @@ same_count (t ∷ ts) [] all = absurd all
 same_count (t ∷ ts) (c ∷ cs) all = ap suc (same_count ts cs all.1)
 
 -- the text of one of the changesets, and those before it
-pub record Split (texts : List (List ℕ)) (front : List (List Section)) (changeset : List Section) : Type 0 where
-  pub before : List (List ℕ)
-  pub text : List ℕ
-  pub after : List (List ℕ)
-  pub parts : texts ≡ before ++ text ∷ after
-  pub spelled : SpellAll before front
-  pub one : Spells text changeset
-
 pub split : (texts : List (List ℕ)) (front : List (List Section)) (changeset : List Section)
-    (rest : List (List Section)) → SpellAll texts (front ++ changeset ∷ rest) → Split texts front changeset
+    (rest : List (List Section)) → SpellAll texts (front ++ changeset ∷ rest)
+    → SpellUntil texts front (λ text. Spells text changeset)
 split [] [] changeset rest all = absurd all
 split [] (c ∷ front) changeset rest all = absurd all
 split (t ∷ ts) [] changeset rest all =
-    record { before = []; text = t; after = ts; parts = refl; spelled = tt; one = all.0 }
+    record { front = []; text = t; rest = ts; parts = refl; spelled = tt; is_so = all.0 }
 split (t ∷ ts) (c ∷ front) changeset rest all =
     let s = split ts front changeset rest all.1 in
     record {
-      before = t ∷ s.before;
+      front = t ∷ s.front;
       text = s.text;
-      after = s.after;
+      rest = s.rest;
       parts = ap (λ xs. t ∷ xs) s.parts;
       spelled = (all.0, s.spelled);
-      one = s.one;
+      is_so = s.is_so;
     }
 
 -- ---- the loop that reads the texts
@@ -78,14 +71,14 @@ read_next texts i text changesets changeset next all one =
 
 pub read_cut : (texts : List Text) (i : ℕ) (text : Text) (changesets : List (List Section)) (fault : ParseFault)
     → drop i texts ≡ text ∷ drop (i + 1) texts → SpellAll (texts_of (take i texts)) changesets
-    → IsFault text.bytes.now fault → IsCutBy (texts_of texts) changesets fault
+    → IsFault text.bytes.now fault → SpellUntil (texts_of texts) changesets (λ text. IsFault text fault)
 read_cut texts i text changesets fault rest all is = record {
   front = texts_of (take i texts);
   text = text.bytes.now;
   rest = texts_of (drop (i + 1) texts);
   parts = texts_front texts i ∙ ap (λ xs. texts_of (take i texts) ++ texts_of xs) rest;
   spelled = all;
-  is_fault = is;
+  is_so = is;
 }
 
 -- ---- the loop that tells that the texts are read so
@@ -154,21 +147,22 @@ add_cut changesets i changeset section in_range rest fits clash = record {
 
 -- the clash of a text that stands among the others
 clash_in : (texts within : List (List ℕ)) (changesets : List (List Section)) (index section : ℕ)
-    (at : IsFirstClash changesets index section) (s : Split within at.front at.changeset) (rest : List (List ℕ))
-    → texts ≡ s.before ++ s.text ∷ rest → HasClash texts index section
+    (at : IsFirstClash changesets index section)
+    (s : SpellUntil within at.front (λ text. Spells text at.changeset)) (rest : List (List ℕ))
+    → texts ≡ s.front ++ s.text ∷ rest → HasClash texts index section
 clash_in texts within changesets index section at s rest parts = record {
-  front = s.before;
+  front = s.front;
   text = s.text;
   changesets = at.front;
   first = record {
     rest = rest;
     parts = parts;
-    is_index = at.is_index ∙ same_count s.before at.front s.spelled;
+    is_index = at.is_index ∙ same_count s.front at.front s.spelled;
     spelled = s.spelled;
     fits = at.fits;
   };
   changeset = at.changeset;
-  spells = s.one;
+  spells = s.is_so;
   clash = at.clash;
 }
 
@@ -177,15 +171,16 @@ pub clash_told : (texts : List (List ℕ)) (changesets : List (List Section)) (f
     → HasClash texts index section
 clash_told texts changesets None index section all at =
     let s = split texts at.front at.changeset at.rest (subst (λ cs. SpellAll texts cs) at.parts all) in
-    clash_in texts texts changesets index section at s s.after s.parts
+    clash_in texts texts changesets index section at s s.rest s.parts
 clash_told texts changesets (Some fault) index section cut at =
     let s = split cut.front at.front at.changeset at.rest (subst (λ cs. SpellAll cut.front cs) at.parts cut.spelled) in
-    clash_in texts cut.front changesets index section at s (s.after ++ cut.text ∷ cut.rest)
+    clash_in texts cut.front changesets index section at s (s.rest ++ cut.text ∷ cut.rest)
     (cut.parts ∙ ap (λ xs. xs ++ cut.text ∷ cut.rest) s.parts
-    ∙ append_assoc s.before (s.text ∷ s.after) (cut.text ∷ cut.rest))
+    ∙ append_assoc s.front (s.text ∷ s.rest) (cut.text ∷ cut.rest))
 
 pub text_fault_told : (texts : List (List ℕ)) (changesets : List (List Section)) (fault : ParseFault) (index : ℕ)
-    → index ≡ length changesets → IsCutBy texts changesets fault → first_refused [] changesets ≡ None
+    → index ≡ length changesets → SpellUntil texts changesets (λ text. IsFault text fault)
+    → first_refused [] changesets ≡ None
     → HasTextFault texts index fault.at (kind_number fault.kind)
 text_fault_told texts changesets fault index is cut fits = record {
   front = cut.front;
@@ -198,7 +193,7 @@ text_fault_told texts changesets fault index is cut fits = record {
     spelled = cut.spelled;
     fits = fits;
   };
-  fault = record { fault = fault; is_fault = cut.is_fault; is_place = refl; is_kind = refl };
+  fault = record { fault = fault; is_fault = cut.is_so; is_place = refl; is_kind = refl };
 }
 
 pub refusal_told : (texts : List (List ℕ)) (changesets : List (List Section)) (fault : Option ParseFault)

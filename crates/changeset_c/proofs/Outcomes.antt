@@ -9,7 +9,7 @@ use Rattle.cs_parse.specs.Reading.{answer_of}
 use Rattle.cs_write.specs.Text.{text_of}
 use Rattle.cs_group.specs.Adding.{first_refused, sections_in}
 use Rattle.cs_group.specs.Group.{first_clash, group_of}
-use Rattle.changeset_c.specs.Combining.{IsFirstBad, HasTextFault, HasClash, CombineSays}
+use Rattle.changeset_c.specs.Combining.{IsFirstBad, HasTextFault, HasClash, CombineSays, Writes}
 use Rattle.changeset_c.specs.Combining.{IsTextFault, IsClash, IsReadSo, AreReadSo, SpellAll, combined_text}
 use Rattle.cs_parse.specs.FaultNumber.{kind_number}
 use Rattle.changeset_c.specs.Says.{IsNumber}
@@ -146,6 +146,12 @@ section_told (faulty index fault) = 0
 section_told (clashing index section) = section
 
 -- ---- the result of `changeset_combine` is the only one
+
+-- what it says of texts whose group is written
+pub says_written : (answer : ℤ) (texts : List (List ℕ)) (before after : List ℕ) (index at kind : ℕ)
+    → Writes answer texts before after → CombineSays answer texts before after index at kind
+says_written (pos n) texts before after index at kind written = written
+says_written (negsuc n) texts before after index at kind written = absurd written
 
 pub combine_only : (answer : ℤ) (texts : List (List ℕ)) (before after : List ℕ) (index at kind : ℕ) → AreReadSo texts
     → CombineSays answer texts before after index at kind → (changesets : List (List Section))

@@ -123,19 +123,20 @@ AreReadSo (text ∷ texts) = IsReadSo text × AreReadSo texts
 
 -- ---- the steps
 
--- the texts before this fault spell these changesets, or all do if there is none
-pub record IsCutBy (texts : List (List ℕ)) (changesets : List (List Section)) (fault : ParseFault)
-    : Type 0 where
+-- the texts before one of which this is so spell these changesets
+pub record SpellUntil (texts : List (List ℕ)) (changesets : List (List Section))
+    (IsSo : List ℕ → Type 0) : Type 0 where
   pub front : List (List ℕ)
   pub text : List ℕ
   pub rest : List (List ℕ)
   pub parts : texts ≡ front ++ text ∷ rest
   pub spelled : SpellAll front changesets
-  pub is_fault : IsFault text fault
+  pub is_so : IsSo text
 
+-- the texts before this fault spell these changesets, or all do if there is none
 abbrev pub ReadUntil : List (List ℕ) → List (List Section) → Option ParseFault → Type 0
 ReadUntil texts changesets None = SpellAll texts changesets
-ReadUntil texts changesets (Some fault) = IsCutBy texts changesets fault
+ReadUntil texts changesets (Some fault) = SpellUntil texts changesets (λ text. IsFault text fault)
 
 -- the changeset with this index is the first that can't be added, for this section
 pub record IsFirstClash (changesets : List (List Section)) (index section : ℕ) : Type 0 where

@@ -5,7 +5,7 @@ ghost use Rattle.cs_write.specs.Buffer.{given};
 ghost use Rattle.changeset_c.specs.Says.{CanonicalSays, CheckSays, InvertSays, KeptBut};
 ghost use Rattle.changeset_c.specs.Says.{inverse_text};
 
-use crate::results::{NO_CHANGESET, NO_MEMORY};
+use crate::results::{NO_CHANGESET, NO_MEMORY, length_told};
 use cs_invert::write_inverse;
 use cs_model::TextChangeset;
 use cs_parse::{ParseError, count_changes, parse, parse_in_place};
@@ -34,15 +34,14 @@ pub fn check(text: &[u8], fault_at: &mut usize, fault_kind: &mut u32) -> i64
 pub fn canonical(alloc: Global, text: &[u8], out: &mut [u8]) -> i64
     ensures { CanonicalSays result out.old out.new text.now }
 {
-    let changeset = match parse(alloc, text) {
-        Ok(changeset) => changeset,
-        Err(ParseError::Fault(_)) => return NO_CHANGESET,
-        Err(ParseError::Memory) => return NO_MEMORY,
-    };
     text_is_no_longer();
-    match write_to(alloc, &changeset, out) {
-        Ok(len) => len as i64,
-        Err(_) => NO_MEMORY,
+    match parse(alloc, text) {
+        Ok(changeset) => match write_to(alloc, &changeset, out) {
+            Ok(len) => len as i64,
+            Err(_) => NO_MEMORY,
+        },
+        Err(ParseError::Fault(_)) => NO_CHANGESET,
+        Err(ParseError::Memory) => NO_MEMORY,
     }
 }
 
@@ -50,12 +49,11 @@ pub fn canonical(alloc: Global, text: &[u8], out: &mut [u8]) -> i64
 pub fn inverted(alloc: Global, text: &[u8], out: &mut [u8]) -> i64
     ensures { InvertSays result out.old out.new text.now }
 {
-    let changeset = match parse_in_place(alloc, text) {
-        Ok(changeset) => changeset,
-        Err(ParseError::Fault(_)) => return NO_CHANGESET,
-        Err(ParseError::Memory) => return NO_MEMORY,
-    };
-    written(alloc, &changeset, out).unwrap_or(NO_MEMORY)
+    match parse_in_place(alloc, text) {
+        Ok(changeset) => written(alloc, &changeset, out).unwrap_or(NO_MEMORY),
+        Err(ParseError::Fault(_)) => NO_CHANGESET,
+        Err(ParseError::Memory) => NO_MEMORY,
+    }
 }
 
 // Writes the text of the inverse if there is room for it, and returns its length.
@@ -64,7 +62,5 @@ fn written(alloc: Global, changeset: &TextChangeset, out: &mut [u8]) -> Result<i
     ensures ok { OnOk result (out.new ≡ given (inverse_text changeset.now) out.old) }
     ensures err { OnErr result (out.new ≡ out.old) }
 {
-    let len = write_inverse(alloc, changeset, out)?;
-    // no memory holds a longer text
-    i64::try_from(len).map_err(|_| AllocError)
+    length_told(write_inverse(alloc, changeset, out)?)
 }

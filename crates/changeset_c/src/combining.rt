@@ -3,11 +3,11 @@
 ghost use Rattle.std.specs.Prelude.{◌≡◌, ℕ, List, [], IfErr, IfOk, None, OnErr, OnOk, length, pos};
 ghost use Rattle.cs_group.specs.{Adding.{first_refused, sections_in}, Group.{group_of}};
 ghost use Rattle.cs_write.specs.{Buffer.{given}, Text.{text_of}};
-ghost use Rattle.changeset_c.specs.Combining.{texts_of, CombineSays, KeptUnlessBad, ReadUntil};
-ghost use Rattle.changeset_c.specs.{Combining.{Refuses, ReportsFirstClash, Writes}, Says.{KeptBut}};
+ghost use Rattle.changeset_c.specs.Combining.{texts_of, ReadUntil, Refuses, ReportsFirstClash};
+ghost use Rattle.changeset_c.specs.Combining.{Writes};
 ghost use Rattle.changeset_c.specs.declared.combining.CombineError.TheVariants.{Memory};
 
-use crate::results::{CLASH, NO_CHANGESET, NO_MEMORY};
+use crate::results::length_told;
 use cs_group::{Group, GroupError};
 use cs_model::TextChangeset;
 use cs_parse::{ParseError, ParseFault, parse_in_place};
@@ -87,9 +87,7 @@ fn written(alloc: Global, group: &Group, out: &mut [u8]) -> Result<i64, AllocErr
     ensures ok { OnOk result (out.new ≡ given (text_of (group_of group.now)) out.old) }
     ensures err { OnErr result (out.new ≡ out.old) }
 {
-    let len = group.write_to(alloc, out)?;
-    // no memory holds a longer text
-    i64::try_from(len).map_err(|_| AllocError)
+    length_told(group.write_to(alloc, out)?)
 }
 
 // Combines the changesets of the texts before the first one with a fault. If none has one, writes
@@ -114,45 +112,12 @@ fn combine_read(
     Ok(written(alloc, &group, out)?)
 }
 
-// Combines the texts, and writes the text of the result if there is room for it.
-fn combined(alloc: Global, texts: &[Text], out: &mut [u8]) -> Result<i64, CombineError>
+/// Combines the texts, and writes the text of the result if there is room for it.
+pub fn combined(alloc: Global, texts: &[Text], out: &mut [u8]) -> Result<i64, CombineError>
     ensures ok { IfOk result (λ n. Writes n (texts_of texts.now) out.old out.new) }
     ensures refused { IfErr result (λ e. Refuses e (texts_of texts.now)) }
     ensures err { OnErr result (out.new ≡ out.old) }
 {
     let (changesets, fault) = read(alloc, texts)?;
     combine_read(alloc, &changesets, fault, out)
-}
-
-/// The length of the text of the texts' group, which is written if `out` has room for it; -1; -2;
-/// or -3.
-pub fn combine(
-    alloc: Global,
-    texts: &[Text],
-    out: &mut [u8],
-    fault_text: &mut usize,
-    fault_at: &mut usize,
-    fault_kind: &mut u32,
-) -> i64
-    ensures says { CombineSays result (texts_of texts.now) out.old out.new
-        fault_text.new fault_at.new fault_kind.new }
-    ensures same_text { KeptUnlessBad result fault_text.old fault_text.new }
-    ensures same_place { KeptUnlessBad result fault_at.old fault_at.new }
-    ensures same_kind { KeptBut result fault_kind.old fault_kind.new }
-{
-    match combined(alloc, texts, out) {
-        Ok(len) => len,
-        Err(CombineError::Memory) => NO_MEMORY,
-        Err(CombineError::Fault { text, fault }) => {
-            *fault_text = text;
-            *fault_at = fault.at;
-            *fault_kind = fault.kind.number();
-            NO_CHANGESET
-        }
-        Err(CombineError::Clash { text, section }) => {
-            *fault_text = text;
-            *fault_at = section;
-            CLASH
-        }
-    }
 }

@@ -14,8 +14,9 @@ ghost use Rattle.changeset_c.specs.Says.{CanonicalSays, CheckSays, InvertSays, I
 ghost use Rattle.changeset_c.specs.Says.{KeptBut, inverse_text};
 
 use crate::answers::{canonical, check, inverted};
-use crate::combining::{Text, combine};
+use crate::combining::{CombineError, Text, combined};
 use crate::reading::texts_are_read_so;
+use crate::results::{CLASH, NO_CHANGESET, NO_MEMORY};
 use cs_parse::laws::every_text;
 use std::alloc::Global;
 
@@ -109,5 +110,19 @@ pub extern "C" fn changeset_combine(
     ensures same_kind { KeptBut result fault_kind.old fault_kind.new }
 {
     texts_are_read_so(texts);
-    combine(alloc, texts, out, fault_text, fault_at, fault_kind)
+    match combined(alloc, texts, out) {
+        Ok(len) => len,
+        Err(CombineError::Memory) => NO_MEMORY,
+        Err(CombineError::Fault { text, fault }) => {
+            *fault_text = text;
+            *fault_at = fault.at;
+            *fault_kind = fault.kind.number();
+            NO_CHANGESET
+        }
+        Err(CombineError::Clash { text, section }) => {
+            *fault_text = text;
+            *fault_at = section;
+            CLASH
+        }
+    }
 }

@@ -4,20 +4,4 @@
 #![tactic(auto)]
 
 #[cfg(test)]
-mod applied;
-#[cfg(test)]
-mod changes;
-#[cfg(test)]
-mod copied;
-#[cfg(test)]
-mod fields;
-#[cfg(test)]
-mod fixture;
-#[cfg(test)]
-mod pieces;
-#[cfg(test)]
-mod said;
-#[cfg(test)]
-mod schemas;
-#[cfg(test)]
-mod written;
+mod tests;

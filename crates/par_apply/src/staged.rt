@@ -1,11 +1,10 @@
 //! `StagedPlan`: a plan whose keys all have places, so that it can be committed without allocation.
 
-ghost use Rattle.std.specs.Prelude.{◌≡◌, ◌<◌, ◌++◌, ◌∷◌, [], List, Option, Some, IfOk, IfErr, OnOk};
+ghost use Rattle.std.specs.Prelude.{◌≡◌, ◌<◌, ◌++◌, ◌∷◌, [], Some, IfOk, IfErr, OnOk};
 ghost use Rattle.std.specs.Prelude.{OnErr, if◌then◌else◌, slice_get, vec_len};
 ghost use Rattle.std.specs.Vec.{vec_capacity};
 ghost use Rattle.cs_apply.specs.Held.{CanHoldRow, KeyHasPlace};
 ghost use Rattle.cs_model.specs.declared.row_key.RowKey.{RowKey as Key};
-ghost use Rattle.cs_model.specs.declared.value.Value.{Value};
 ghost use Rattle.par_apply.specs.Planned.{FitsAtKey, RowsFit, planned_changes};
 ghost use Rattle.par_apply.specs.RowChanges.{RowChanges, overlaid};
 ghost use Rattle.par_apply.specs.Staged.{CanHoldAll, changes_staged, unstaged};
@@ -13,7 +12,7 @@ ghost use Rattle.par_apply.specs.Staged.{without_change, without_places};
 
 use crate::planned::{RowChange, RowPlan};
 use cs_apply::HeldTables;
-use cs_model::{CopyIn, RowKey};
+use cs_model::CopyIn;
 use std::alloc::{AllocError, Global};
 use thiserror::Error;
 
@@ -104,7 +103,8 @@ fn hold_all(
     Ok(())
 }
 
-// Makes a place for the key of a change, if it gets a row. An `Err` changes nothing.
+// Makes a place for the key of a change, if it gets a row, and notes the index of the change if the
+// key had none. An `Err` changes nothing.
 fn hold_change(
     alloc: Global,
     tables: &mut HeldTables,
@@ -124,26 +124,6 @@ fn hold_change(
     if row.is_none() {
         return Ok(());
     }
-    hold(alloc, tables, made, index, key)
-}
-
-// Makes a place for a key, and notes the index of its change if the key had none. An `Err` changes
-// nothing.
-fn hold(
-    alloc: Global,
-    tables: &mut HeldTables,
-    made: &mut Vec<usize>,
-    index: usize,
-    key: &RowKey,
-) -> Result<(), AllocError>
-    ensures state { tables.new.state ≡ tables.old.state }
-    ensures placed { OnOk result (KeyHasPlace tables.new key.now) }
-    ensures stays { (other : Key) → KeyHasPlace tables.old other → KeyHasPlace tables.new other }
-    ensures back { (changes : RowChanges) (row : Option (List Value))
-        → slice_get changes index ≡ Some (key.now, row)
-        → without_places tables.new changes made.new.items
-        ≡ without_places tables.old changes made.old.items }
-{
     made.reserve(1)?;
     let own = key.copy_in(alloc)?;
     let is_new = tables.hold(own)?;

@@ -97,7 +97,7 @@ LockHolds cells desk filler closing parts register = record {
   made : register.made ≡ length desk.picture.subscriptions;
 }
 
--- a subscription's own step, which the register counts
+-- what the lock says of the desk goes on after a subscription's own step, which the register counts
 pub own_step_holds : {cells filler : Cells} {new : JournaledPicture} {next : Picture} {parts : ℕ}
     {before after : RegisterState} (old : JournaledPicture) (step : Step) (closing : Option LastToken) → CountsOwn
     → KeepsFrame old.picture next → new ≡ journaled old step next
@@ -128,6 +128,21 @@ holds_still cells old new more closing register keeps none h =
 pub none_more : {A : Type 0} (result : Result A DeskError) (step : Step) → is_own step ≡ false → own_steps result step ≡ 0
 none_more (Ok answer) step not_own = ap (λ b. cond b 1 0) not_own
 none_more (Err error) step not_own = refl
+
+-- so it does after a call that makes no such step, whatever it returns: the register counts none
+pub other_call_holds : {A : Type 0} {cells filler : Cells} {next : Picture} {parts : ℕ} {register : RegisterState}
+    (old new : JournaledPicture) (step : Step) (closing : Option LastToken) (result : Result A DeskError)
+    (answer : Result A DeskRefusal) → CountsOwn → KeepsFrame old.picture next
+    → JournalAnswers result (answer, next) step old new → is_own step ≡ false
+    → old.picture.limits.capacity ≡ cells.capacity → filler ≡ cells → ShowsClosing cells old.picture.closing closing
+    → parts ≡ 1024 → register.total ≡ counted_steps is_own old.steps → register.made ≡ length old.picture.subscriptions
+    → LockHolds cells new filler closing parts register
+other_call_holds {A} {cells} {filler} {next} {parts} {register} old new step closing result answer counts frame
+    answers not_own fits fills closes all total made =
+    let keeps = call_keeps result (answer, next) step old new counts frame answers in
+    let k = holds_still cells old new (own_steps result step) closing register keeps (none_more result step not_own)
+    (record { fits = fits; closes = closes; total = total; made = made }) in
+    record { fits = k.fits; fills = fills; closes = k.closes; all = all; total = k.total; made = k.made }
 
 -- an Ok that comes after so many steps is the call's own
 pub answered : {A : Type 0} (steps : ℕ) (r : Result A DeskRefusal) (a : A) → answer_after steps r ≡ Ok a → r ≡ Ok a

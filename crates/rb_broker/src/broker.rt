@@ -1,7 +1,7 @@
 //! `Broker`: what all threads share. Its lock holds the desk.
 
-ghost use Rattle.std.specs.Prelude.{◌≡◌, ◌++◌, ◌∷◌, [], ℕ, suc, length, IfErr, IfOk, IfSome};
-ghost use Rattle.std.specs.{Arc.{arc_value}, Prelude.{MatchOption, OnErr, OnOk}};
+ghost use Rattle.std.specs.Prelude.{◌≡◌, ◌++◌, ◌∷◌, [], ℕ, IfErr, IfOk, IfSome};
+ghost use Rattle.std.specs.{Arc.{arc_value}, Prelude.{MatchOption}};
 ghost use Rattle.rb_intake.specs.Passes.{IsAllPulled};
 ghost use Rattle.rb_sequence.specs.{Cells.{IsLastToken}, Items.{CountsUp}};
 ghost use Rattle.rb_broker.specs.Placing.{DeskRefuses, ShowsEntry, ShowsWhy};
@@ -13,7 +13,7 @@ use crate::opened::Opened;
 use crate::refusal::{PlaceRefusal, RefusedItem};
 use cs_model::Schema;
 use rb_desk::Config;
-use rb_intake::{Intake, PublisherPass, SequencerPass};
+use rb_intake::{Intake, SequencerPass};
 use rb_sequence::{Entry, Item, Preparer, ReadyError, Sequence, Told, ToldLast};
 use rb_subscriber::{Auditor, Register};
 use std::alloc::Global;
@@ -60,39 +60,27 @@ impl<L: Hall> Broker<L> {
         ensures limits { result.broker.config ≡ opened.limits }
         ensures schema { arc_value result.broker.schema ≡ opened.schema }
     {
-        let Opened {
-            config,
-            schema,
-            sequence,
-            preparer,
-            filler,
-            intake,
-            sequencer,
-            maker,
-            desk,
-            blank,
-        } = opened;
-        let (register, auditor) = Register::open(blank);
+        let (register, auditor) = Register::open(opened.blank);
         let broker = Broker {
-            config,
-            schema,
-            sequence,
-            preparer,
-            intake,
+            config: opened.config,
+            schema: opened.schema,
+            sequence: opened.sequence,
+            preparer: opened.preparer,
+            intake: opened.intake,
             locked: Mutex::new(Locked {
-                desk,
-                filler,
+                desk: opened.desk,
+                filler: opened.filler,
                 register,
                 closing: None,
             }),
         };
         let publishers = PublisherMaker {
-            pass: maker,
+            pass: opened.maker,
             of: PhantomData,
         };
         Started {
             broker,
-            sequencer,
+            sequencer: opened.sequencer,
             publishers,
             auditor,
         }
@@ -118,24 +106,6 @@ impl<L: Hall> Broker<L> {
         ensures intake { result.1.queue ≡ L.queue }
     {
         (self.sequence, self.intake)
-    }
-
-    /// Sends an item under a publisher's pass. `Publisher::send` calls it.
-    pub(crate) fn push<R: Wait>(
-        &self,
-        rt: &R,
-        pass: &mut PublisherPass,
-        item: Item,
-    ) -> Result<(), Item>
-        requires queue { pass.old.queue ≡ L.queue }
-        requires publisher { item.publisher ≡ pass.old.publisher }
-        requires own { item.own ≡ suc (length pass.old.sent) }
-        ensures ok { OnOk result (pass.new
-            ≡ record pass.old { sent = pass.old.sent ++ item ∷ [] }) }
-        ensures err { OnErr result (pass.new ≡ pass.old) }
-        ensures full { IfErr result (λ back. back ≡ item) }
-    {
-        self.intake.push(rt, pass, item)
     }
 
     /// Pulls the item that waits first. `Sequencer::turn` calls it.

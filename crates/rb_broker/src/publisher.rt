@@ -157,7 +157,7 @@ impl<L: Hall> Publisher<L> {
             origin,
             body,
         };
-        match broker.push(rt, &mut self.pass, item) {
+        match broker.intake.push(rt, &mut self.pass, item) {
             Ok(()) => Ok(own),
             Err(item) => Err(SendRefusal::Full(StagedSet {
                 publisher,

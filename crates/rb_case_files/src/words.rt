@@ -33,26 +33,17 @@ impl Options {
                 _ => option = Some(place(word)?),
             }
         }
-        let [
-            batch,
-            window,
-            timeout,
-            capacity,
-            intake,
-            appliers,
-            subscribers,
-        ] = numbers;
-        match option {
-            None => {
-                let config = Config::new(batch, window, timeout, capacity, intake, appliers);
-                Some(Options {
-                    config: config.ok()?,
-                    how,
-                    subscribers,
-                })
-            }
-            Some(_) => None,
+        if option.is_some() {
+            return None;
         }
+        let [batch, window, timeout, capacity, intake, appliers, _] = numbers;
+        let config = Config::new(batch, window, timeout, capacity, intake, appliers).ok()?;
+        let [.., subscribers] = numbers;
+        Some(Options {
+            config,
+            how,
+            subscribers,
+        })
     }
 }
 

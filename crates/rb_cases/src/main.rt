@@ -14,19 +14,63 @@ use listing::Listing;
 use rb_case_files::names;
 use rb_show::RowForm;
 use std::alloc::Global;
-use std::io;
 use std::process::ExitCode;
+use std::{fmt, io};
 
-/// The most bytes of a changeset in a line of `feed`: all, one, and seven.
-const PIECES: [usize; 3] = [65_536, 1, 7];
+/// A way to run a case.
+#[derive(Clone, Copy)]
+enum Way {
+    /// A script, with its changesets cut into pieces of so many bytes at the most.
+    Pieces(usize),
+    /// Lines, whose rows are shown in this form.
+    Rows(RowForm),
+}
 
-/// The forms in which rows are shown.
-const FORMS: [RowForm; 2] = [RowForm::Sql, RowForm::Json];
+/// Each script is run with all bytes of a changeset in a line of `feed`, with one, and with seven.
+const SCRIPTS: [Way; 3] = [Way::Pieces(65_536), Way::Pieces(1), Way::Pieces(7)];
+
+/// The rows of each listing are shown in each form.
+const LISTINGS: [Way; 2] = [Way::Rows(RowForm::Sql), Way::Rows(RowForm::Json)];
+
+impl fmt::Display for Way {
+    fn fmt<W: fmt::Write>(&self, f: &mut fmt::Formatter<W>) -> fmt::Result {
+        match self {
+            Way::Pieces(most) => write!(f, "pieces of {most}"),
+            Way::Rows(form) => write!(f, "{form:?}"),
+        }
+    }
+}
+
+impl Way {
+    // Runs the case of this name. Returns how many lines were compared, or how the first one differs.
+    fn run(self, rt: &HostRuntime, alloc: Global, name: &str) -> io::Result<Result<usize, String>> {
+        Ok(match self {
+            Way::Pieces(most) => Case::read(rt, alloc, name)?.run(alloc, most)?,
+            Way::Rows(form) => Listing::read(rt, alloc, name)?.run(alloc, form)?,
+        })
+    }
+}
+
+/// What running cases came to.
+#[derive(Clone, Copy)]
+struct Tally {
+    cases: usize,
+    lines: usize,
+    failed: usize,
+}
 
 fn main(rt: HostRuntime) -> io::Result<ExitCode> {
-    let failed = scripts(&rt, rt.alloc())?;
-    let unlike = listings(&rt, rt.alloc())?;
-    let failed = failed.saturating_add(unlike);
+    let scripts = run_all(&rt, rt.alloc(), ".script", &SCRIPTS)?;
+    println!(rt;
+        "{} cases, {} answers compared",
+        scripts.cases, scripts.lines
+    )?;
+    let listings = run_all(&rt, rt.alloc(), ".shows", &LISTINGS)?;
+    println!(rt;
+        "{} listings, {} lines compared",
+        listings.cases, listings.lines
+    )?;
+    let failed = scripts.failed.saturating_add(listings.failed);
     Ok(if failed == 0 {
         ExitCode::SUCCESS
     } else {
@@ -35,62 +79,25 @@ fn main(rt: HostRuntime) -> io::Result<ExitCode> {
     })
 }
 
-// Runs each script. Returns how many differ.
-fn scripts(rt: &HostRuntime, alloc: Global) -> io::Result<usize> {
-    let names = names(rt, alloc, ".script")?;
-    let mut answers = 0_usize;
+// Runs each case whose file has this end, in each of these ways. Prints each difference.
+fn run_all(rt: &HostRuntime, alloc: Global, end: &str, ways: &[Way]) -> io::Result<Tally> {
+    let names = names(rt, alloc, end)?;
+    let mut lines = 0_usize;
     let mut failed = 0_usize;
     for name in &names {
-        for most in PIECES {
-            match compared(rt, alloc, name.as_str(), most)? {
-                Some(count) => answers = answers.saturating_add(count),
-                None => failed = failed.saturating_add(1),
+        for way in ways {
+            match way.run(rt, alloc, name.as_str())? {
+                Ok(count) => lines = lines.saturating_add(count),
+                Err(difference) => {
+                    println!(rt; "{name}, {way}: {difference}")?;
+                    failed = failed.saturating_add(1);
+                }
             }
         }
     }
-    println!(rt; "{} cases, {answers} answers compared", names.len())?;
-    Ok(failed)
-}
-
-// Shows the rows of each file of lines. Returns how many differ.
-fn listings(rt: &HostRuntime, alloc: Global) -> io::Result<usize> {
-    let names = names(rt, alloc, ".shows")?;
-    let mut rows = 0_usize;
-    let mut failed = 0_usize;
-    for name in &names {
-        for form in FORMS {
-            match listed(rt, alloc, name.as_str(), form)? {
-                Some(count) => rows = rows.saturating_add(count),
-                None => failed = failed.saturating_add(1),
-            }
-        }
-    }
-    println!(rt; "{} listings, {rows} lines compared", names.len())?;
-    Ok(failed)
-}
-
-// Runs a case in pieces of this size. Returns the number of its answers; if one differs, prints it
-// and returns nothing.
-fn compared(rt: &HostRuntime, alloc: Global, name: &str, most: usize) -> io::Result<Option<usize>> {
-    let case = Case::read(rt, alloc, name)?;
-    match case.run(alloc, most)? {
-        Ok(count) => Ok(Some(count)),
-        Err(difference) => {
-            println!(rt; "{name}, pieces of {most}: {difference}")?;
-            Ok(None)
-        }
-    }
-}
-
-// Shows the rows of a file of lines in this form. Returns the number of lines; if one differs,
-// prints it and returns nothing.
-fn listed(rt: &HostRuntime, alloc: Global, name: &str, form: RowForm) -> io::Result<Option<usize>> {
-    let listing = Listing::read(rt, alloc, name)?;
-    match listing.run(alloc, form)? {
-        Ok(count) => Ok(Some(count)),
-        Err(difference) => {
-            println!(rt; "{name}, {form:?}: {difference}")?;
-            Ok(None)
-        }
-    }
+    Ok(Tally {
+        cases: names.len(),
+        lines,
+        failed,
+    })
 }

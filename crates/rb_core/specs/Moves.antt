@@ -1,7 +1,7 @@
 -- Moves of the abstract world: what may happen at once. Refusals, acknowledgements, returned
 -- deliveries and expiries change nothing here.
 use Rattle.std.specs.Prelude.{◌≡◌, ℕ, suc, ◌<◌, ◌≤◌, ◌⊎◌, true, false, map, List, []}
-use Rattle.std.specs.Prelude.{◌∷◌, ◌++◌, length, Some, None, slice_get, slice_set}
+use Rattle.std.specs.Prelude.{◌∷◌, ◌++◌, length, Option, Some, None, slice_get, slice_set}
 use Rattle.std.specs.List.{AllByRecursion}
 use Rattle.cs_model.specs.declared.origin.Origin.{Origin}
 use Rattle.cs_model.specs.declared.origin.Origin.TheVariants as origin
@@ -13,6 +13,7 @@ use Rattle.rb_sequence.specs.declared.item.Item.{Item}
 use Rattle.rb_sequence.specs.Entry.{Entry}
 use Rattle.rb_subscriber.specs.Accept.{part, brought, AcceptsDelivery}
 use Rattle.rb_subscriber.specs.Endpoint.{Endpoint}
+use Rattle.rb_core.specs.declared.publisher.Staged.{Staged}
 use Rattle.rb_core.specs.World.{Sender, Subscriber, World, endpoint_of, subscriber_begun}
 
 abbrev pub with_sender : World → ℕ → Sender → World
@@ -45,11 +46,11 @@ AddsPublisher old new = new
 -- a publisher's text and what it staged change, and nothing else
 pub record Streams (old new : World) : Type 0 where
   pub p : ℕ
-  pub before : Sender
-  pub after : Sender
-  pub found : slice_get old.senders p ≡ Some before
-  pub sent : after.sent ≡ before.sent
-  pub kept : new ≡ with_sender old p after
+  pub sender : Sender
+  pub text : List ℕ
+  pub staged : Option Staged
+  pub found : slice_get old.senders p ≡ Some sender
+  pub kept : new ≡ with_sender old p (record sender { text = text; staged = staged })
 
 -- what a publisher staged becomes its next sending, at the end of the intake
 pub record Sends (old new : World) : Type 0 where

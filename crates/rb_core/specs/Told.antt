@@ -16,9 +16,11 @@ use Rattle.cs_apply.specs.Single.{single}
 use Rattle.cs_apply.specs.State as tables
 use Rattle.cs_group.specs.Group.{group_of}
 use Rattle.rb_desk.specs.declared.delivery.Delivery.{Delivery}
+use Rattle.rb_desk.specs.Picture.{Picture}
 use Rattle.rb_sequence.specs.declared.item.Item.{Item}
 use Rattle.rb_sequence.specs.Entry.{Entry}
 use Rattle.rb_subscriber.specs.Accept.{brought, joined_bodies}
+use Rattle.rb_subscriber.specs.Endpoint.{Endpoint}
 use Rattle.rb_core.specs.declared.event.Event.{Event}
 use Rattle.rb_core.specs.declared.event.Event.TheVariants as event
 use Rattle.rb_core.specs.declared.publisher.PublisherState.{PublisherState}
@@ -254,20 +256,27 @@ IsDelivered subscribers delivery = (q : Subscriber) × (slice_get subscribers de
 abbrev pub AreBelow : ℕ → Subscriber → Type 0
 AreBelow next q = AllByRecursion (λ offer. offer.number < next) q.deliveries
 
+-- A broker's desk, endpoints and deliveries agree with the reported closing number, links and
+-- subscriptions. Each delivery was made to its subscription. All links and numbers so far are below
+-- the next ones. Each subscription began with empty tables.
+pub record AreSubscribersTold (schema : List Shape) (desk : Picture) (endpoints : List Endpoint)
+    (handed : List Delivery) (closed : Option ℕ) (given : List ℕ) (subscribers : List Subscriber)
+    : Type 0 where
+  pub closing : closed ≡ desk.closing
+  pub ends : map endpoint_of subscribers ≡ endpoints
+  pub deliveries : AllByRecursion (IsDelivered subscribers) handed
+  pub links : AllByRecursion (λ link. link < desk.next_link) given
+  pub numbers : AllByRecursion (AreBelow desk.next_delivery) subscribers
+  pub bases : AllByRecursion (λ q. q.base ≡ empty_tables schema) subscribers
+
 -- A broker's state agrees with the reported world: publishers, intake, item in hand, sequence,
--- closing number and endpoints. Each of its deliveries was made to its subscription. All links and
--- numbers so far are below the next ones. Each subscription began with empty tables. The same
--- entries are withdrawn.
+-- closing number and subscriptions. The same entries are withdrawn.
 pub record IsToldBy (schema : List Shape) (state : State) (world : World) : Type 0 where
   pub served : state.schema ≡ schema
   pub senders : Paired IsSender state.publishers world.senders
   pub intake : world.intake ≡ state.intake
   pub hand : world.hand ≡ state.hand
   pub sequence : world.sequence ≡ state.sequence
-  pub closing : world.closing ≡ state.desk.closing
-  pub ends : map endpoint_of world.subscribers ≡ state.endpoints
-  pub deliveries : AllByRecursion (IsDelivered world.subscribers) state.deliveries
-  pub links : AllByRecursion (λ link. link < state.desk.next_link) world.links
-  pub numbers : AllByRecursion (AreBelow state.desk.next_delivery) world.subscribers
-  pub bases : AllByRecursion (λ q. q.base ≡ empty_tables schema) world.subscribers
+  pub subscriptions : AreSubscribersTold schema state.desk state.endpoints state.deliveries
+      world.closing world.links world.subscribers
   pub withdrawn : (n : ℕ) → 0 < n → (is_withdrawn state n ≡ false) ↔ IsNew world.withdrawn n

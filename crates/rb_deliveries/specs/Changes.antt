@@ -200,9 +200,12 @@ pub record IsOutTo (p : DeliveryPicture) (s : ℕ) (span : Span) : Type 0 where
   pub out : out_as delivery sub.spans ≡ Some span
 
 -- the subscription with this number is open, and may continue after this cursor
-pub record MayContinue (p : DeliveryPicture) (s cursor : ℕ) : Type 0 where
+pub record Continues (subs : List Subscription) (s cursor : ℕ) : Type 0 where
   pub sub : Subscription
-  pub found : slice_get p.subscriptions s ≡ Some sub
+  pub found : slice_get subs s ≡ Some sub
   pub is_open : sub.closed ≡ false
   pub from : sub.floor ≤ cursor
   pub to : cursor ≤ sub.offered
+
+abbrev pub MayContinue : DeliveryPicture → ℕ → ℕ → Type 0
+MayContinue p = Continues p.subscriptions

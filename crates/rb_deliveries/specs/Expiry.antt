@@ -1,6 +1,6 @@
 -- Expiry of stored spans. Each span that is due gets a ticket by its delivery's number, so expired
 -- spans keep the in-flight order.
-use Rattle.std.specs.Prelude.{ℕ, suc, ◌+◌, List, [], ◌∷◌, length, map, if◌then◌else◌, true}
+use Rattle.std.specs.Prelude.{ℕ, suc, ◌+◌, ◌<◌, List, [], ◌∷◌, length, map, if◌then◌else◌, true}
 use Rattle.std.specs.List.{filter}
 use Rattle.rb_deliveries.specs.declared.ticket.Ticket.{Ticket}
 use Rattle.rb_deliveries.specs.declared.ticket.Held.{Held}
@@ -21,6 +21,11 @@ ticket_of tk (InFlight number moment) = tk number
 
 abbrev pub by_number : (ℕ → Ticket) → Held → Ticket
 by_number tk h = ticket_of tk h.span.status
+
+-- the turn of a returned span's ticket, after this one, is below 2^64
+abbrev pub HasTurn : ℕ → Status → Type 0
+HasTurn turn (Ready taken) = Unit {0}
+HasTurn turn (InFlight number moment) = suc turn + number < 18446744073709551616
 
 -- makes a span that is due ready again, with a ticket that depends on what it was
 abbrev pub expired_held : ℕ → ℕ → (Held → Ticket) → Held → Held

@@ -33,6 +33,18 @@ lane_floor kept = floor_before kept.held kept.next
 abbrev pub earlier : Ticket → Ticket → Bool
 earlier a b = nat_lt a.front b.front || ((a.front == b.front) && nat_lt a.turn b.turn)
 
+-- whether the second ticket comes before the first; where there is none, it would come last
+abbrev pub overtakes : Option Ticket → Option Ticket → Bool
+overtakes first None = false
+overtakes None (Some b) = true
+overtakes (Some a) (Some b) = earlier b a
+
+-- The one with the earlier ticket; of two with the same ticket, the first.
+abbrev pub first_by : {X : Type 0} → (X → Ticket) → Option X → Option X → Option X
+first_by ticket None b = b
+first_by ticket (Some a) None = Some a
+first_by ticket (Some a) (Some b) = if earlier (ticket b) (ticket a) then Some b else Some a
+
 -- the ticket of a span that was never taken: the cutting's if its first number was placed then,
 -- else that of its placement
 abbrev pub birth : Ticket → ℕ → Ticket
@@ -58,9 +70,7 @@ lane_spans batch front kept = spans_of (lane_held batch front kept)
 -- the first in line; of two with the same ticket, the first; then the first in line of the ready
 -- ones
 abbrev pub better : Option Held → Option Held → Option Held
-better None b = b
-better (Some a) None = Some a
-better (Some a) (Some b) = if earlier b.ticket a.ticket then Some b else Some a
+better = first_by (λ h. h.ticket)
 
 abbrev pub if_ready : Held → Option Held
 if_ready h = if is_ready h.span.status then Some h else None

@@ -11,7 +11,7 @@ use Rattle.rb_deliveries.specs.declared.span.Status.{Status}
 use Rattle.rb_deliveries.specs.declared.span.Status.TheVariants.{Ready, InFlight}
 use Rattle.rb_deliveries.specs.declared.sub.Sub.{Sub}
 use Rattle.rb_deliveries.specs.Spans.{cut_spans, is_fresh, is_ready, how_many_out, out_as}
-use Rattle.rb_deliveries.specs.Lanes.{earlier, least, cut_lane, delivered_lane}
+use Rattle.rb_deliveries.specs.Lanes.{earlier, first_by, least, cut_lane, delivered_lane}
 use Rattle.rb_deliveries.specs.Lanes.{returned_lane, settled_lane, Lane, lane_held, lane_floor}
 use Rattle.rb_deliveries.specs.Lanes.{spans_of}
 
@@ -101,9 +101,7 @@ abbrev pub span_to_deliver : ℕ × Held → ℕ × Span
 span_to_deliver c = (c.0, c.1.span)
 
 abbrev pub goes_first : Option (ℕ × Held) → Option (ℕ × Held) → Option (ℕ × Held)
-goes_first None b = b
-goes_first (Some a) None = Some a
-goes_first (Some a) (Some b) = if earlier b.1.ticket a.1.ticket then Some b else Some a
+goes_first = first_by (λ c. c.1.ticket)
 
 abbrev pub first_to_deliver : ℕ → ℕ → ℕ → ℕ → List Sub → Option (ℕ × Held)
 first_to_deliver window batch front s [] = None

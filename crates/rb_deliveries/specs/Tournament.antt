@@ -1,17 +1,14 @@
 -- A tournament over tickets: which place's ticket is first in line.
 use Rattle.std.specs.Prelude.{◌≡◌, ℕ, zero, suc, ◌+◌, ◌-◌, ◌<◌, ◌≤◌, List, [], ◌∷◌, ◌++◌, length}
-use Rattle.std.specs.Prelude.{take, drop, replicate, map, Option, Some, None, get_or}
-use Rattle.std.specs.Prelude.{if◌then◌else◌}
+use Rattle.std.specs.Prelude.{take, drop, replicate, map, Option, None, get_or}
 use Rattle.std.specs.Option.{option_map}
 use Rattle.rb_deliveries.specs.declared.ticket.Ticket.{Ticket}
 use Rattle.rb_deliveries.specs.declared.tournament.Winner.{Winner}
-use Rattle.rb_deliveries.specs.Lanes.{earlier}
+use Rattle.rb_deliveries.specs.Lanes.{first_by}
 
 -- the winner of two neighbouring parts; of two with the same ticket, the left one
 abbrev pub winner_of_two : Option Winner → Option Winner → Option Winner
-winner_of_two None b = b
-winner_of_two (Some a) None = Some a
-winner_of_two (Some a) (Some b) = if earlier b.ticket a.ticket then Some b else Some a
+winner_of_two = first_by (λ w. w.ticket)
 
 -- the winner of one place
 abbrev pub at_place : ℕ → Option Ticket → Option Winner

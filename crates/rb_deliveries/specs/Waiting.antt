@@ -10,7 +10,7 @@ use Rattle.rb_deliveries.specs.declared.ticket.Held.{Held}
 use Rattle.rb_deliveries.specs.declared.ticket.Ticket.{Ticket}
 use Rattle.rb_deliveries.specs.Spans.{how_many_out}
 use Rattle.rb_deliveries.specs.Subs.{Belongs}
-use Rattle.rb_deliveries.specs.Lanes.{AreRising, Lane, birth, earlier, least, spans_of}
+use Rattle.rb_deliveries.specs.Lanes.{AreRising, Lane, birth, earlier, first_by, least, spans_of}
 
 -- the ticket that is first in line, of a span that was taken before and of the next one that wasn't
 abbrev pub sooner_ticket : Option Held → Ticket → Ticket
@@ -35,9 +35,7 @@ moment_of (InFlight number moment) = Some (record { front = moment; turn = 0 })
 
 -- the earlier of two; of two that are the same, the first
 abbrev pub first_ticket : Option Ticket → Option Ticket → Option Ticket
-first_ticket None b = b
-first_ticket (Some a) None = Some a
-first_ticket (Some a) (Some b) = if earlier b a then Some b else Some a
+first_ticket = first_by (λ t. t)
 
 -- the earliest moment of these spans
 abbrev pub earliest : List Held → Option Ticket

@@ -30,9 +30,8 @@ pub(crate) struct Subs {
     // how many deliveries may be in flight to a subscription
     window: u64,
     subs: Vec<Sub>,
-    // the tickets of the subscriptions, and their earliest moments: they follow from `subs`
-    line: Tournament,
-    moments: Tournament,
+    // follows from `subs`
+    waiting: Waiting,
 }
 
 impl Model for Subs {
@@ -43,7 +42,50 @@ impl Model for Subs {
 
     ghost view = { λ d. record { window = d.window; subs = d.subs.items } };
 
-    ghost invariant = { λ d. AreWaiting d.window d.subs.items d.line d.moments };
+    ghost invariant = { λ d. AreWaiting d.window d.subs.items d.waiting.line d.waiting.moments };
+}
+
+/// Which subscription's span is delivered first, and whose delivery was taken first: the tickets of
+/// all subscriptions, and their earliest moments.
+#[derive(Debug, Drop)]
+pub(crate) struct Waiting {
+    pub(crate) line: Tournament,
+    pub(crate) moments: Tournament,
+}
+
+impl Waiting {
+    /// Gives a subscription that changed its ticket and its moment among the others.
+    fn stand(&mut self, subs: &[Sub], window: u64, s: usize)
+        requires here { s < length subs.now }
+        requires line { length self.old.line ≡ length subs.now }
+        requires moments { length self.old.moments ≡ length subs.now }
+        ensures { (sub : Sub) → slice_get subs.now s ≡ Some sub
+            → StandsAgain window s sub self.old.line self.old.moments self.new.line
+            self.new.moments }
+    {
+        self.line.set(s, subs[s].ticket(window));
+        self.moments.set(s, subs[s].moment());
+    }
+
+    /// Adds a place to both, or to none.
+    fn push(
+        &mut self,
+        alloc: Global,
+        ticket: Option<Ticket>,
+        moment: Option<Ticket>,
+    ) -> Result<(), AllocError>
+        ensures ok { OnOk result ((self.new.line ≡ self.old.line ++ ticket ∷ [])
+            × (self.new.moments ≡ self.old.moments ++ moment ∷ [])) }
+        ensures err { OnErr result ((self.new.line ≡ self.old.line)
+            × (self.new.moments ≡ self.old.moments)) }
+    {
+        self.line.push(alloc, ticket)?;
+        if let Err(e) = self.moments.push(alloc, moment) {
+            self.line.pop();
+            return Err(e);
+        }
+        Ok(())
+    }
 }
 
 impl Subs {
@@ -54,8 +96,10 @@ impl Subs {
         Subs {
             window,
             subs: Vec::new(alloc),
-            line: Tournament::new(alloc),
-            moments: Tournament::new(alloc),
+            waiting: Waiting {
+                line: Tournament::new(alloc),
+                moments: Tournament::new(alloc),
+            },
         }
     }
 
@@ -100,7 +144,7 @@ impl Subs {
         let made = Sub::behind(start, link, ticket);
         let first = made.ticket(self.window);
         let moment = made.moment();
-        push_both(alloc, &mut self.line, &mut self.moments, first, moment)?;
+        self.waiting.push(alloc, first, moment)?;
         self.subs.push_reserved(made);
         Ok(())
     }
@@ -128,13 +172,7 @@ impl Subs {
         let s = s as usize;
         let alloc = *self.subs.allocator();
         self.subs[s].deliver(alloc, span, number, tick)?;
-        stand(
-            &self.subs,
-            &mut self.line,
-            &mut self.moments,
-            self.window,
-            s,
-        );
+        self.waiting.stand(&self.subs, self.window, s);
         Ok(())
     }
 
@@ -148,13 +186,7 @@ impl Subs {
     {
         let s = s as usize;
         self.subs[s].give_back(first, ticket);
-        stand(
-            &self.subs,
-            &mut self.line,
-            &mut self.moments,
-            self.window,
-            s,
-        );
+        self.waiting.stand(&self.subs, self.window, s);
     }
 
     /// Opens a span of a subscription: each of its numbers is a ready span of its own, in its
@@ -169,13 +201,7 @@ impl Subs {
     {
         let s = s as usize;
         self.subs[s].open(first, latest)?;
-        stand(
-            &self.subs,
-            &mut self.line,
-            &mut self.moments,
-            self.window,
-            s,
-        );
+        self.waiting.stand(&self.subs, self.window, s);
         Ok(())
     }
 
@@ -189,13 +215,7 @@ impl Subs {
     {
         let s = s as usize;
         let floor = self.subs[s].settle(first);
-        stand(
-            &self.subs,
-            &mut self.line,
-            &mut self.moments,
-            self.window,
-            s,
-        );
+        self.waiting.stand(&self.subs, self.window, s);
         floor
     }
 
@@ -209,13 +229,7 @@ impl Subs {
     {
         let s = s as usize;
         self.subs[s].reconnect(cursor, link, ticket);
-        stand(
-            &self.subs,
-            &mut self.line,
-            &mut self.moments,
-            self.window,
-            s,
-        );
+        self.waiting.stand(&self.subs, self.window, s);
     }
 
     /// Closes a subscription and removes all its spans.
@@ -226,13 +240,7 @@ impl Subs {
     {
         let s = s as usize;
         self.subs[s].close();
-        stand(
-            &self.subs,
-            &mut self.line,
-            &mut self.moments,
-            self.window,
-            s,
-        );
+        self.waiting.stand(&self.subs, self.window, s);
     }
 }
 
@@ -246,7 +254,7 @@ impl Subs {
         ensures { result ≡ option_map span_to_deliver
             (first_to_deliver self.now.window batch front 0 self.now.subs) }
     {
-        let winner = self.line.winner()?;
+        let winner = self.waiting.line.winner()?;
         // the ticket of numbers that aren't placed yet
         if front < winner.ticket.front {
             return None;
@@ -271,8 +279,7 @@ impl Subs {
     {
         expire_due(
             &mut self.subs,
-            &mut self.line,
-            &mut self.moments,
+            &mut self.waiting,
             self.window,
             timeout,
             clock,
@@ -282,51 +289,18 @@ impl Subs {
     }
 }
 
-// gives a subscription that changed its ticket and its moment among the others
-fn stand(subs: &[Sub], line: &mut Tournament, moments: &mut Tournament, window: u64, s: usize)
-    requires here { s < length subs.now }
-    requires line { length line.old ≡ length subs.now }
-    requires moments { length moments.old ≡ length subs.now }
-    ensures { (sub : Sub) → slice_get subs.now s ≡ Some sub
-        → StandsAgain window s sub line.old moments.old line.new moments.new }
-{
-    line.set(s, subs[s].ticket(window));
-    moments.set(s, subs[s].moment());
-}
-
-// adds a place to both, or to none
-fn push_both(
-    alloc: Global,
-    line: &mut Tournament,
-    moments: &mut Tournament,
-    ticket: Option<Ticket>,
-    moment: Option<Ticket>,
-) -> Result<(), AllocError>
-    ensures ok { OnOk result ((line.new ≡ line.old ++ ticket ∷ [])
-        × (moments.new ≡ moments.old ++ moment ∷ [])) }
-    ensures err { OnErr result ((line.new ≡ line.old) × (moments.new ≡ moments.old)) }
-{
-    line.push(alloc, ticket)?;
-    if let Err(e) = moments.push(alloc, moment) {
-        line.pop();
-        return Err(e);
-    }
-    Ok(())
-}
-
 // Makes the spans that are due ready again, and returns how many there are. It goes to the
 // subscription whose delivery was taken first, as long as that one is due.
 fn expire_due(
     subs: &mut Vec<Sub>,
-    line: &mut Tournament,
-    moments: &mut Tournament,
+    waiting: &mut Waiting,
     window: u64,
     timeout: u64,
     clock: u64,
     latest: Ticket,
     next: u64,
 ) -> u64
-    requires waiting { AreWaiting window subs.old.items line.old moments.old }
+    requires waiting { AreWaiting window subs.old.items waiting.old.line waiting.old.moments }
     requires given { AllByRecursion (λ sub. AreGiven next latest.turn sub.lane.held)
         subs.old.items }
     requires drawn { AllByRecursion (λ sub. AllByRecursion
@@ -336,15 +310,15 @@ fn expire_due(
     ensures subs { subs.new.items
         ≡ map (expired_sub timeout clock (by_number (turns_from latest.front latest.turn)))
         subs.old.items }
-    ensures waiting { AreWaiting window subs.new.items line.new moments.new }
+    ensures waiting { AreWaiting window subs.new.items waiting.new.line waiting.new.moments }
 {
     let mut many = 0;
-    let mut past = first_past(moments, timeout, clock);
+    let mut past = first_past(&waiting.moments, timeout, clock);
     while let Some(s) = past {
         many += subs[s].how_many_due(timeout, clock);
         subs[s].expire(timeout, clock, latest, next);
-        stand(subs, line, moments, window, s);
-        past = first_past(moments, timeout, clock);
+        waiting.stand(subs, window, s);
+        past = first_past(&waiting.moments, timeout, clock);
     }
     many
 }

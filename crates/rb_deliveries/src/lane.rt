@@ -3,13 +3,13 @@
 
 ghost use Rattle.std.specs.Prelude.{◌≡◌, ◌<◌, ◌≤◌, slice_get, OnOk, OnErr};
 ghost use Rattle.std.specs.List.{AllByRecursion};
-ghost use Rattle.rb_deliveries.specs.declared.span.Status.TheVariants.{InFlight};
 ghost use Rattle.rb_deliveries.specs.Spans.{cut_spans, first_ready, out_as, how_many_out};
 ghost use Rattle.rb_deliveries.specs.Lanes.{AreRising, AreLimited, HasNumbers, spans_of, lane_held};
 ghost use Rattle.rb_deliveries.specs.Lanes.{lane_spans, is_none_left, lane_floor, least, cut_lane};
 ghost use Rattle.rb_deliveries.specs.Lanes.{delivered_lane, returned_lane, settled_lane};
 ghost use Rattle.rb_deliveries.specs.Lanes.{pushed_lane};
 ghost use Rattle.rb_deliveries.specs.Opening.{IsLatest, opened_lane};
+ghost use Rattle.rb_deliveries.specs.Taken.{GoesLast};
 ghost use Rattle.rb_deliveries.specs.Waiting.{earliest, lane_ticket};
 
 use crate::span::{Span, Status};
@@ -42,7 +42,7 @@ impl Model for Lane {
 }
 
 impl Lane {
-    ghost use Rattle.rb_deliveries.specs.Subs.{AreGiven, ComesLast, IsDrawn, IsNewest};
+    ghost use Rattle.rb_deliveries.specs.Subs.{AreGiven, ComesLast, IsDrawn};
     ghost use Rattle.rb_deliveries.specs.Expiry.{due_held, expired_lane};
 
     /// The lane of a subscription that begins, or continues, after this number.
@@ -142,40 +142,35 @@ impl Lane {
         self.held.out_as(number)
     }
 
-    /// Delivers a ready span: it is in flight as this delivery, whose number is the greatest, taken
-    /// at this tick.
+    /// Delivers a ready span: it gets this status, in flight as the delivery with the greatest
+    /// number.
     pub(crate) fn deliver(
         &mut self,
         alloc: Global,
         span: Span,
-        number: u64,
-        tick: u64,
+        status: Status,
     ) -> Result<(), AllocError>
         requires span { HasNumbers span }
-        requires last { IsNewest number self.old.held }
-        ensures ok { OnOk result (self.new ≡ delivered_lane self.old span (InFlight number tick)) }
+        requires last { GoesLast status self.old.held }
+        ensures ok { OnOk result (self.new ≡ delivered_lane self.old span status) }
         ensures err { OnErr result (self.new ≡ self.old) }
         ensures memory { OnErr result (span.first ≡ self.old.next) }
     {
         if span.first == self.next {
-            return self.push(alloc, span, number, tick);
+            return self.push(alloc, span, status);
         }
-        self.held.deliver(span.first, number, tick, self.cutting);
+        self.held.restate(span.first, status, self.cutting);
         Ok(())
     }
 
     // stores the first span that was never taken, now in flight
-    fn push(&mut self, alloc: Global, span: Span, number: u64, tick: u64) -> Result<(), AllocError>
+    fn push(&mut self, alloc: Global, span: Span, status: Status) -> Result<(), AllocError>
         requires span { HasNumbers span }
         requires first { span.first ≡ self.old.next }
-        requires last { IsNewest number self.old.held }
-        ensures ok { OnOk result (self.new ≡ pushed_lane self.old span (InFlight number tick)) }
+        requires last { GoesLast status self.old.held }
+        ensures ok { OnOk result (self.new ≡ pushed_lane self.old span status) }
         ensures err { OnErr result (self.new ≡ self.old) }
     {
-        let status = Status::InFlight {
-            number,
-            moment: tick,
-        };
         let held = Held {
             span: Span { status, ..span },
             ticket: self.cutting,
@@ -190,7 +185,8 @@ impl Lane {
         requires { ComesLast ticket self.old.held }
         ensures { self.new ≡ returned_lane self.old first ticket }
     {
-        self.held.give_back(first, ticket);
+        let status = Status::Ready { taken: true };
+        self.held.restate(first, status, ticket);
     }
 
     /// Opens a span: each of its numbers is a ready span of its own. Their tickets come after

@@ -5,9 +5,9 @@ ghost use Rattle.std.specs.Prelude.{length, slice_set, IfSome, IsSome, MatchOpti
 ghost use Rattle.std.specs.List.{AllByRecursion};
 ghost use Rattle.link_lists.specs.declared.lane.Lane.TheVariants.{First};
 ghost use Rattle.link_lists.specs.Lanes.{value_under, with_lane, without_key};
-ghost use Rattle.rb_deliveries.specs.Expiry.{expired_by};
+ghost use Rattle.rb_deliveries.specs.Expiry.{HasTurn, expired_by};
 ghost use Rattle.rb_deliveries.specs.Lanes.{restated, without_held, RiseSome};
-ghost use Rattle.rb_deliveries.specs.Subs.{AreGiven, IsDrawn, IsGiven};
+ghost use Rattle.rb_deliveries.specs.Subs.{AreGiven, IsDrawn};
 ghost use Rattle.rb_deliveries.specs.Taken.{AreWoven, AreKept, GoesLast, IsKeyOf, NoSpanBegins};
 ghost use Rattle.rb_deliveries.specs.Taken.{StandsLast, expired_key, held_in, held_under};
 ghost use Rattle.rb_deliveries.specs.Taken.{lists_key, nth_list, with_state};
@@ -114,7 +114,7 @@ pub(crate) fn expire(
             return rest;
         };
         at = records.next(Lane::First, key);
-        rest = expire_key(records, rest, key, timeout, clock, latest, next);
+        rest = expire_key(records, rest, key, timeout, clock, latest);
     }
     rest
 }
@@ -218,12 +218,10 @@ fn expire_key(
     timeout: u64,
     clock: u64,
     latest: Ticket,
-    next: u64,
 ) -> u64
     requires lists { AreKept (Some records.old) flying }
     requires out { lists_key key (nth_list 1 records.old.first) ≡ true }
-    requires given { IsGiven next (held_under records.old.slots key).span.status }
-    requires fits { latest.turn + next < 18446744073709551616 }
+    requires turn { HasTurn latest.turn (held_under records.old.slots key).span.status }
     ensures lanes { records.new ≡ expired_key timeout clock latest key records.old }
     ensures flying { result ≡ length (nth_list 1 records.new.first) }
 {
@@ -231,35 +229,27 @@ fn expire_key(
         return flying;
     }
     records.unlink(Lane::First, key);
-    expire_at(records, key, timeout, clock, latest, next);
+    expire_at(records, key, timeout, clock, latest);
     records.push_back(Lane::First, 0, key);
     flying - 1
 }
 
 // makes the span under this key ready again if it is due
-fn expire_at(
-    records: &mut Woven<Held>,
-    key: usize,
-    timeout: u64,
-    clock: u64,
-    latest: Ticket,
-    next: u64,
-)
+fn expire_at(records: &mut Woven<Held>, key: usize, timeout: u64, clock: u64, latest: Ticket)
     requires kept { IsSome (value_under records.old key) }
-    requires given { IsGiven next (held_under records.old.slots key).span.status }
-    requires fits { latest.turn + next < 18446744073709551616 }
+    requires turn { HasTurn latest.turn (held_under records.old.slots key).span.status }
     ensures { records.new ≡ record records.old {
       slots = slice_set records.old.slots key
           (Some (expired_by timeout clock latest (held_under records.old.slots key)));
     } }
 {
     if let Some(held) = records.get_mut(key) {
-        *held = expired(*held, timeout, clock, latest, next);
+        *held = expired(*held, timeout, clock, latest);
     }
 }
 
-fn expired(held: Held, timeout: u64, clock: u64, latest: Ticket, next: u64) -> Held
-    requires { (IsGiven next held.span.status) × (latest.turn + next < 18446744073709551616) }
+fn expired(held: Held, timeout: u64, clock: u64, latest: Ticket) -> Held
+    requires { HasTurn latest.turn held.span.status }
     ensures { result ≡ expired_by timeout clock latest held }
 {
     if let Status::InFlight { number, moment } = held.span.status {

@@ -8,7 +8,7 @@ ghost use Rattle.rb_deliveries.specs.Lanes.{spans_of};
 ghost use Rattle.rb_deliveries.specs.Spans.{first_ready, how_many_out};
 
 use crate::lane::Lane;
-use crate::span::Span;
+use crate::span::{Span, Status};
 use crate::ticket::Ticket;
 use std::alloc::{AllocError, Global};
 
@@ -65,7 +65,11 @@ impl Sub {
         ensures err { OnErr result (self.new ≡ self.old) }
         ensures memory { OnErr result (span.first ≡ self.old.lane.next) }
     {
-        self.lane.deliver(alloc, span, number, tick)?;
+        let status = Status::InFlight {
+            number,
+            moment: tick,
+        };
+        self.lane.deliver(alloc, span, status)?;
         self.offered = self.offered.max(span.last);
         Ok(())
     }

@@ -2,16 +2,15 @@
 //! tickets, those in flight by their deliveries' numbers, and all by their own numbers.
 
 ghost use Rattle.std.specs.Prelude.{◌≡◌, ◌<◌, ◌^◌, ◌++◌, ◌∷◌, ◌==◌, [], map, length, slice_get};
-ghost use Rattle.std.specs.Prelude.{◌-◌, ◌+◌, true, OnOk, OnErr};
+ghost use Rattle.std.specs.Prelude.{◌-◌, ◌+◌, OnOk, OnErr};
 ghost use Rattle.std.specs.List.{AllByRecursion};
 ghost use Rattle.std.specs.Option.{option_map};
-ghost use Rattle.rb_deliveries.specs.declared.span.Status.TheVariants.{Ready, InFlight};
 ghost use Rattle.rb_deliveries.specs.Expiry.{due_held, expired_by};
 ghost use Rattle.rb_deliveries.specs.Lanes.{spans_of, least, restated, without_held, RiseSome};
 ghost use Rattle.rb_deliveries.specs.Opening.{opened_held, RiseFromOne};
 ghost use Rattle.rb_deliveries.specs.Spans as spans;
-ghost use Rattle.rb_deliveries.specs.Subs.{AreGiven, ComesLast, IsDrawn, IsNewest};
-ghost use Rattle.rb_deliveries.specs.Taken.{GoesLast};
+ghost use Rattle.rb_deliveries.specs.Subs.{AreGiven, IsDrawn};
+ghost use Rattle.rb_deliveries.specs.Taken.{GoesLast, StandsLast};
 ghost use Rattle.rb_deliveries.specs.Waiting.{earliest};
 
 use crate::span::{Span, Status};
@@ -139,33 +138,18 @@ impl Taken {
         Ok(())
     }
 
-    /// Delivers the span that begins with this number, if there is one: it is in flight as this
-    /// delivery, whose number is the greatest, taken at this tick.
-    pub(crate) fn deliver(&mut self, first: u64, number: u64, moment: u64, ticket: Ticket)
+    /// Sets the status and the ticket of the span that begins with this number, if there is one. It
+    /// stands after all others then: among those in flight by its delivery's number, or in line by
+    /// its ticket.
+    pub(crate) fn restate(&mut self, first: u64, status: Status, ticket: Ticket)
         requires rising { RiseSome self.old }
         requires few { length self.old < 2 ^ 64 - 1 }
-        requires last { IsNewest number self.old }
-        ensures { self.new ≡ restated first (InFlight number moment) ticket self.old }
+        requires last { StandsLast status ticket self.old }
+        ensures { self.new ≡ restated first status ticket self.old }
     {
         let Some(records) = &mut self.records else {
             return;
         };
-        let status = Status::InFlight { number, moment };
-        self.flying = steps::restate(records, self.flying, first, status, ticket);
-    }
-
-    /// Makes the span that begins with this number ready again, if there is one. Its ticket comes
-    /// after all others.
-    pub(crate) fn give_back(&mut self, first: u64, ticket: Ticket)
-        requires rising { RiseSome self.old }
-        requires few { length self.old < 2 ^ 64 - 1 }
-        requires last { ComesLast ticket self.old }
-        ensures { self.new ≡ restated first (Ready true) ticket self.old }
-    {
-        let Some(records) = &mut self.records else {
-            return;
-        };
-        let status = Status::Ready { taken: true };
         self.flying = steps::restate(records, self.flying, first, status, ticket);
     }
 

@@ -2,7 +2,7 @@
 
 ghost use Rattle.std.specs.Prelude.{◌≡◌};
 ghost use Rattle.std.specs.Option.{option_map};
-ghost use Rattle.rb_deliveries.specs.Lanes.{earlier, birth, with_birth, better};
+ghost use Rattle.rb_deliveries.specs.Lanes.{earlier, birth, with_birth, better, overtakes};
 ghost use Rattle.rb_deliveries.specs.Waiting.{first_ticket};
 
 use crate::span::Span;
@@ -58,34 +58,33 @@ impl Ticket {
     }
 }
 
+/// Whether the second ticket comes before the first. Where there is none, it would come last.
+pub(crate) fn overtakes(first: Option<Ticket>, second: Option<Ticket>) -> bool
+    ensures { result ≡ overtakes first second }
+{
+    match (first, second) {
+        (Some(a), Some(b)) => b.is_before(a),
+        (None, Some(_)) => true,
+        (_, None) => false,
+    }
+}
+
 /// The earlier ticket; `first` if both are the same.
 pub(crate) fn first_ticket(first: Option<Ticket>, second: Option<Ticket>) -> Option<Ticket>
     ensures { result ≡ first_ticket first second }
 {
-    let Some(a) = first else {
-        return second;
-    };
-    let Some(b) = second else {
-        return first;
-    };
-    if b.is_before(a) {
-        return second;
+    if overtakes(first, second) {
+        second
+    } else {
+        first
     }
-    first
 }
 
 /// The one that is first in line; `first` if both have the same ticket.
 pub(crate) fn sooner(first: Option<Held>, second: Option<Held>) -> Option<Held>
     ensures { result ≡ better first second }
 {
-    let Some(a) = first else {
-        return second;
-    };
-    let Some(b) = second else {
-        return first;
-    };
-    if b.ticket.is_before(a.ticket) {
-        return second;
-    }
-    first
+    let a = first.map(|held| held.ticket);
+    let b = second.map(|held| held.ticket);
+    if overtakes(a, b) { second } else { first }
 }

@@ -8,7 +8,7 @@ ghost use Rattle.rb_deliveries.specs.Tournament as spec;
 ghost use Rattle.rb_deliveries.specs.Tournament.{at_place, winner_from, NodesWin, IsTree};
 ghost use Rattle.rb_deliveries.specs.Tournament.{tickets_of};
 
-use crate::ticket::Ticket;
+use crate::ticket::{Ticket, overtakes};
 use std::alloc::{AllocError, Global};
 use std::marker::Model;
 
@@ -173,14 +173,7 @@ fn leaf(place: usize, ticket: Option<Ticket>) -> Option<Winner>
 fn join(left: Option<Winner>, right: Option<Winner>) -> Option<Winner>
     ensures { result ≡ spec.winner_of_two left right }
 {
-    let Some(a) = left else {
-        return right;
-    };
-    let Some(b) = right else {
-        return left;
-    };
-    if b.ticket.is_before(a.ticket) {
-        return right;
-    }
-    left
+    let a = left.map(|winner| winner.ticket);
+    let b = right.map(|winner| winner.ticket);
+    if overtakes(a, b) { right } else { left }
 }

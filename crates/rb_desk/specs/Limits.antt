@@ -20,6 +20,17 @@ pub record Limits : Type 0 where
   pub intake : ℕ
   pub appliers : ℕ
 
+-- these six, in the order of `Config::new`
+abbrev pub six_limits : ℕ → ℕ → ℕ → ℕ → ℕ → ℕ → Limits
+six_limits batch window timeout capacity intake appliers = record {
+  batch = batch;
+  window = window;
+  timeout = timeout;
+  capacity = capacity;
+  intake = intake;
+  appliers = appliers;
+}
+
 -- whether a number is from 1 to `most`
 abbrev pub is_in_range : ℕ → ℕ → Bool
 is_in_range most n = nat_le 1 n && nat_le n most

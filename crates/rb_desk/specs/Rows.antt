@@ -3,7 +3,7 @@ use Rattle.std.specs.Prelude.{◌≡◌, [], ◌∷◌, Ok, Err, refl}
 use Rattle.rb_desk.specs.declared.refusal.DeskRefusal.TheVariants as refusal
 use Rattle.rb_desk.specs.declared.step.Step.TheVariants.{Subscribe, Take, Ack, Nack, Reconnect}
 use Rattle.rb_desk.specs.declared.step.Step.TheVariants.{Place, Close, NackOpened, TakeAny}
-use Rattle.rb_desk.specs.Limits.{Limits}
+use Rattle.rb_desk.specs.Limits.{Limits, six_limits}
 use Rattle.rb_desk.specs.Picture.{Picture}
 use Rattle.rb_deliveries.specs.Spans.{cut_spans}
 use Rattle.rb_desk.specs.Calls.{subscribe, take, take_any, ack, nack, expire, reconnect, prepare}
@@ -12,14 +12,7 @@ use Rattle.rb_desk.specs.Steps.{after_step, replay, replayed}
 
 -- batches of one number with two deliveries in flight; batches of up to 256
 abbrev two_in_flight : Limits
-two_in_flight = record {
-  batch = 1;
-  window = 2;
-  timeout = 10;
-  capacity = 9;
-  intake = 1;
-  appliers = 1;
-}
+two_in_flight = six_limits 1 2 10 9 1 1
 
 abbrev large_batches : Limits
 large_batches = record two_in_flight { batch = 256; window = 4 }

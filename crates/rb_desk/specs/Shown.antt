@@ -3,7 +3,7 @@
 use Rattle.std.specs.Prelude.{◌≡◌, ◌≤◌, ◌<◌, ◌+◌, ◌*◌, ℕ, suc, false, true, Option, None, Some}
 use Rattle.std.specs.Prelude.{Result, Ok, Err, slice_get, ⊤}
 use Rattle.rb_deliveries.specs.declared.span.Span.{Span}
-use Rattle.rb_deliveries.specs.Changes.{has_room}
+use Rattle.rb_deliveries.specs.Changes.{Continues, has_room}
 use Rattle.rb_deliveries.specs.Picture.{DeliveryPicture, Subscription}
 use Rattle.rb_deliveries.specs.Lanes.{most_numbers}
 use Rattle.rb_deliveries.specs.Spans.{first_ready, out_as}
@@ -99,12 +99,8 @@ FindsToAck (Ok span) p s link number cursor = IsInFlight p s link number span
 FindsToAck (Err why) p s link number cursor = ack p s link number cursor ≡ refused_call p why
 
 -- the subscription is open, and may continue after this cursor
-pub record MayReconnect (p : Picture) (s cursor : ℕ) : Type 0 where
-  pub sub : Subscription
-  pub found : slice_get p.subscriptions s ≡ Some sub
-  pub is_open : sub.closed ≡ false
-  pub from : sub.floor ≤ cursor
-  pub to : cursor ≤ sub.offered
+abbrev pub MayReconnect : Picture → ℕ → ℕ → Type 0
+MayReconnect p = Continues p.subscriptions
 
 abbrev pub FindsToReconnect : Result ⊤ DeskRefusal → Picture → ℕ → ℕ → Type 0
 FindsToReconnect (Ok done) p s cursor = MayReconnect p s cursor

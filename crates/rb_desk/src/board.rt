@@ -34,6 +34,13 @@ impl Model for Board {
     ghost invariant = { λ d. IsWithin d.config d.deliveries.picture };
 }
 
+/// The subscription that a call is for, and the link that the caller has.
+#[derive(Clone, Copy, Debug)]
+pub(crate) struct Caller {
+    pub(crate) sub: u64,
+    pub(crate) link: u64,
+}
+
 impl Board {
     /// A new board, before any call.
     pub(crate) fn new(alloc: Global, config: Config) -> Board
@@ -55,15 +62,15 @@ impl Board {
         self.config
     }
 
-    /// The subscription of this number, if this is its link, or why there is none.
+    /// The subscription of the caller, if this is its link, or why there is none.
     #[tactic(auto, unfolding(crate::specs::Calls::take, crate::specs::Calls::ack, crate::specs::Calls::nack, crate::specs::Calls::nack_opened, crate::specs::Calls::unsubscribe))]
-    pub(crate) fn linked(&self, sub: u64, link: u64) -> Result<SubscriptionRef<'_>, DeskRefusal>
-        ensures { FindsLinked result self.now.picture sub link }
+    pub(crate) fn linked(&self, caller: Caller) -> Result<SubscriptionRef<'_>, DeskRefusal>
+        ensures { FindsLinked result self.now.picture caller.sub caller.link }
     {
-        let Some(found) = self.deliveries.get(sub) else {
+        let Some(found) = self.deliveries.get(caller.sub) else {
             return Err(DeskRefusal::NoSuch);
         };
-        if found.link() != link {
+        if found.link() != caller.link {
             return Err(DeskRefusal::StaleLink);
         }
         Ok(found)

@@ -1,7 +1,7 @@
 //! `Config`: the limits of a broker, checked against their ranges.
 
 ghost use Rattle.std.specs.Prelude.{◌≡◌, ◌≤◌, IfOk, IfErr, Ok, Err, None, Some};
-ghost use Rattle.rb_desk.specs.Limits.{is_in_range, first_out_of_range};
+ghost use Rattle.rb_desk.specs.Limits.{is_in_range, first_out_of_range, six_limits};
 
 use rb_deliveries::MOST_NUMBERS;
 use std::marker::Model;
@@ -37,18 +37,11 @@ pub enum ConfigFault {
 
 impl Model for Config {
     ghost use Rattle.std.specs.Prelude.{◌≡◌, None};
-    ghost use Rattle.rb_desk.specs.Limits.{Limits, first_out_of_range};
+    ghost use Rattle.rb_desk.specs.Limits.{Limits, six_limits, first_out_of_range};
 
     ghost Value = { Limits };
 
-    ghost view = { λ c. record {
-      batch = c.batch;
-      window = c.window;
-      timeout = c.timeout;
-      capacity = c.capacity;
-      intake = c.intake;
-      appliers = c.appliers;
-    } };
+    ghost view = { λ c. six_limits c.batch c.window c.timeout c.capacity c.intake c.appliers };
 
     ghost invariant = { λ c.
         first_out_of_range c.batch c.window c.timeout c.capacity c.intake c.appliers ≡ None };
@@ -81,14 +74,8 @@ impl Config {
         intake: u64,
         appliers: u64,
     ) -> Result<Config, ConfigFault>
-        ensures ok { IfOk result (λ config. config ≡ record {
-          batch = batch;
-          window = window;
-          timeout = timeout;
-          capacity = capacity;
-          intake = intake;
-          appliers = appliers;
-        }) }
+        ensures ok { IfOk result (λ config.
+            config ≡ six_limits batch window timeout capacity intake appliers) }
         ensures valid { IfOk result (λ config.
             first_out_of_range batch window timeout capacity intake appliers ≡ None) }
         ensures refused { IfErr result (λ fault.
@@ -110,14 +97,7 @@ impl Config {
     /// The default limits: batch 16, window 4, timeout 10, capacity 65,536, intake 64 and one
     /// applier.
     pub fn standard() -> Config
-        ensures { result ≡ record {
-          batch = 16;
-          window = 4;
-          timeout = 10;
-          capacity = 65536;
-          intake = 64;
-          appliers = 1;
-        } }
+        ensures { result ≡ six_limits 16 4 10 65536 64 1 }
     {
         Config {
             batch: 16,

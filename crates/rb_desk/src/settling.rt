@@ -5,7 +5,7 @@ ghost use Rattle.rb_desk.specs.Calls.{ack, nack, nack_opened, expire};
 ghost use Rattle.rb_desk.specs.Answers.{DeskAnswers, call_refusal};
 ghost use Rattle.rb_desk.specs.Shown.{AreLeft, Draws, FindsInFlight, FindsToAck};
 
-use crate::board::Board;
+use crate::board::{Board, Caller};
 use crate::refusal::{DeskError, DeskRefusal};
 use rb_deliveries::Span;
 
@@ -17,31 +17,30 @@ impl Board {
     #[tactic(auto, unfolding(crate::specs::Calls::ack))]
     pub(crate) fn ack(
         &mut self,
-        sub: u64,
-        link: u64,
+        caller: Caller,
         delivery: u64,
         cursor: u64,
     ) -> Result<u64, DeskRefusal>
-        ensures answer { ack self.old.picture sub link delivery cursor
+        ensures answer { ack self.old.picture caller.sub caller.link delivery cursor
             ≡ (result, self.new.picture) }
         ensures err { OnErr result (self.new ≡ self.old) }
         ensures draws { Draws 0 self.old self.new }
     {
-        let span = self.to_ack(sub, link, delivery, cursor)?;
-        Ok(self.deliveries.ack(sub, span))
+        let span = self.to_ack(caller, delivery, cursor)?;
+        Ok(self.deliveries.ack(caller.sub, span))
     }
 
     /// Why `ack` would refuse these numbers, or `None` where it would not.
     pub(crate) fn refuses_ack(
         &self,
-        sub: u64,
-        link: u64,
+        caller: Caller,
         delivery: u64,
         cursor: u64,
     ) -> Option<DeskRefusal>
-        ensures { result ≡ call_refusal (ack self.now.picture sub link delivery cursor).0 }
+        ensures { result
+            ≡ call_refusal (ack self.now.picture caller.sub caller.link delivery cursor).0 }
     {
-        self.to_ack(sub, link, delivery, cursor).err()
+        self.to_ack(caller, delivery, cursor).err()
     }
 
     /// Negatively acknowledges a delivery: its numbers are ready again, after all that are ready.
@@ -49,22 +48,23 @@ impl Board {
     ///
     /// Refuses `NoSuch`, `StaleLink`, `NotInFlight`.
     #[tactic(auto, unfolding(crate::specs::Calls::nack))]
-    pub(crate) fn nack(&mut self, sub: u64, link: u64, delivery: u64) -> Result<(), DeskRefusal>
+    pub(crate) fn nack(&mut self, caller: Caller, delivery: u64) -> Result<(), DeskRefusal>
         requires { AreLeft 1 self.old }
-        ensures answer { nack self.old.picture sub link delivery ≡ (result, self.new.picture) }
+        ensures answer { nack self.old.picture caller.sub caller.link delivery
+            ≡ (result, self.new.picture) }
         ensures err { OnErr result (self.new ≡ self.old) }
         ensures draws { Draws 1 self.old self.new }
     {
-        let span = self.in_flight(sub, link, delivery)?;
-        self.deliveries.nack(sub, span);
+        let span = self.in_flight(caller, delivery)?;
+        self.deliveries.nack(caller.sub, span);
         Ok(())
     }
 
     /// Why `nack` would refuse these numbers, or `None` where it would not.
-    pub(crate) fn refuses_nack(&self, sub: u64, link: u64, delivery: u64) -> Option<DeskRefusal>
-        ensures { result ≡ call_refusal (nack self.now.picture sub link delivery).0 }
+    pub(crate) fn refuses_nack(&self, caller: Caller, delivery: u64) -> Option<DeskRefusal>
+        ensures { result ≡ call_refusal (nack self.now.picture caller.sub caller.link delivery).0 }
     {
-        self.in_flight(sub, link, delivery).err()
+        self.in_flight(caller, delivery).err()
     }
 
     /// Negatively acknowledges a delivery and opens it: each of its numbers is ready again, alone,
@@ -72,32 +72,24 @@ impl Board {
     ///
     /// Refuses `NoSuch`, `StaleLink`, `NotInFlight`.
     #[tactic(auto, unfolding(crate::specs::Calls::nack_opened))]
-    pub(crate) fn nack_opened(
-        &mut self,
-        sub: u64,
-        link: u64,
-        delivery: u64,
-    ) -> Result<u64, DeskError>
+    pub(crate) fn nack_opened(&mut self, caller: Caller, delivery: u64) -> Result<u64, DeskError>
         requires { AreLeft self.old.picture.front self.old }
-        ensures answer { DeskAnswers result (nack_opened self.old.picture sub link delivery)
+        ensures answer { DeskAnswers result
+            (nack_opened self.old.picture caller.sub caller.link delivery)
             self.old.picture self.new.picture }
         ensures err { OnErr result (self.new ≡ self.old) }
         ensures draws { Draws self.old.picture.front self.old self.new }
     {
-        let span = self.in_flight(sub, link, delivery)?;
-        Ok(self.deliveries.nack_opened(sub, span)?)
+        let span = self.in_flight(caller, delivery)?;
+        Ok(self.deliveries.nack_opened(caller.sub, span)?)
     }
 
     /// Why `nack_opened` would refuse these numbers, or `None` where it would not.
-    pub(crate) fn refuses_nack_opened(
-        &self,
-        sub: u64,
-        link: u64,
-        delivery: u64,
-    ) -> Option<DeskRefusal>
-        ensures { result ≡ call_refusal (nack_opened self.now.picture sub link delivery).0 }
+    pub(crate) fn refuses_nack_opened(&self, caller: Caller, delivery: u64) -> Option<DeskRefusal>
+        ensures { result
+            ≡ call_refusal (nack_opened self.now.picture caller.sub caller.link delivery).0 }
     {
-        self.in_flight(sub, link, delivery).err()
+        self.in_flight(caller, delivery).err()
     }
 
     /// Expires every delivery that has been out for `timeout` ticks or longer, in the order they
@@ -120,10 +112,10 @@ impl Board {
 impl Board {
     // the span that is in flight to the subscription as this delivery, or why there is none
     #[tactic(auto, unfolding(crate::specs::Calls::ack, crate::specs::Calls::nack, crate::specs::Calls::nack_opened))]
-    fn in_flight(&self, sub: u64, link: u64, delivery: u64) -> Result<Span, DeskRefusal>
-        ensures { FindsInFlight result self.now.picture sub link delivery }
+    fn in_flight(&self, caller: Caller, delivery: u64) -> Result<Span, DeskRefusal>
+        ensures { FindsInFlight result self.now.picture caller.sub caller.link delivery }
     {
-        let found = self.linked(sub, link)?;
+        let found = self.linked(caller)?;
         match found.out_as(delivery) {
             Some(span) => Ok(span),
             None => Err(DeskRefusal::NotInFlight),
@@ -132,10 +124,10 @@ impl Board {
 
     // the span that `ack` settles, or why it refuses
     #[tactic(auto, unfolding(crate::specs::Calls::ack))]
-    fn to_ack(&self, sub: u64, link: u64, delivery: u64, cursor: u64) -> Result<Span, DeskRefusal>
-        ensures { FindsToAck result self.now.picture sub link delivery cursor }
+    fn to_ack(&self, caller: Caller, delivery: u64, cursor: u64) -> Result<Span, DeskRefusal>
+        ensures { FindsToAck result self.now.picture caller.sub caller.link delivery cursor }
     {
-        let span = self.in_flight(sub, link, delivery)?;
+        let span = self.in_flight(caller, delivery)?;
         if cursor < span.last {
             return Err(DeskRefusal::NotAccepted { cursor });
         }

@@ -5,7 +5,7 @@ ghost use Rattle.rb_desk.specs.Calls.{subscribe, reconnect, unsubscribe};
 ghost use Rattle.rb_desk.specs.Answers.{DeskAnswers, call_refusal};
 ghost use Rattle.rb_desk.specs.Shown.{AreLeft, Draws, FindsToClose, FindsToReconnect};
 
-use crate::board::Board;
+use crate::board::{Board, Caller};
 use crate::refusal::{DeskError, DeskRefusal};
 use std::alloc::Global;
 
@@ -79,21 +79,22 @@ impl Board {
     ///
     /// Refuses `NoSuch`, `StaleLink`, `Closed`.
     #[tactic(auto, unfolding(crate::specs::Calls::unsubscribe))]
-    pub(crate) fn unsubscribe(&mut self, sub: u64, link: u64) -> Result<(), DeskRefusal>
-        ensures answer { unsubscribe self.old.picture sub link ≡ (result, self.new.picture) }
+    pub(crate) fn unsubscribe(&mut self, caller: Caller) -> Result<(), DeskRefusal>
+        ensures answer { unsubscribe self.old.picture caller.sub caller.link
+            ≡ (result, self.new.picture) }
         ensures err { OnErr result (self.new ≡ self.old) }
         ensures draws { Draws 0 self.old self.new }
     {
-        self.to_close(sub, link)?;
-        self.deliveries.unsubscribe(sub);
+        self.to_close(caller)?;
+        self.deliveries.unsubscribe(caller.sub);
         Ok(())
     }
 
     /// Why `unsubscribe` would refuse this link, or `None` where it would not.
-    pub(crate) fn refuses_unsubscribe(&self, sub: u64, link: u64) -> Option<DeskRefusal>
-        ensures { result ≡ call_refusal (unsubscribe self.now.picture sub link).0 }
+    pub(crate) fn refuses_unsubscribe(&self, caller: Caller) -> Option<DeskRefusal>
+        ensures { result ≡ call_refusal (unsubscribe self.now.picture caller.sub caller.link).0 }
     {
-        self.to_close(sub, link).err()
+        self.to_close(caller).err()
     }
 }
 
@@ -119,10 +120,10 @@ impl Board {
 
     // whether the subscription may be closed under this link, or why not
     #[tactic(auto, unfolding(crate::specs::Calls::unsubscribe))]
-    fn to_close(&self, sub: u64, link: u64) -> Result<(), DeskRefusal>
-        ensures { FindsToClose result self.now.picture sub link }
+    fn to_close(&self, caller: Caller) -> Result<(), DeskRefusal>
+        ensures { FindsToClose result self.now.picture caller.sub caller.link }
     {
-        let found = self.linked(sub, link)?;
+        let found = self.linked(caller)?;
         if found.closed() {
             return Err(DeskRefusal::Closed);
         }

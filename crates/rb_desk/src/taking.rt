@@ -8,7 +8,7 @@ ghost use Rattle.rb_desk.specs.Answers.{DeskAnswers, call_refusal};
 ghost use Rattle.rb_desk.specs.Picture.{deliveries_of};
 ghost use Rattle.rb_desk.specs.Shown.{AreLeft, Draws, FindsToTake};
 
-use crate::board::Board;
+use crate::board::{Board, Caller};
 use crate::delivery::Delivery;
 use crate::refusal::{DeskError, DeskRefusal};
 use rb_deliveries::Span;
@@ -24,27 +24,28 @@ impl Board {
     #[tactic(auto, unfolding(crate::specs::Calls::take))]
     pub(crate) fn take(
         &mut self,
-        sub: u64,
-        link: u64,
+        caller: Caller,
         cursor: u64,
         now: u64,
     ) -> Result<Delivery, DeskError>
         requires { AreLeft 0 self.old }
-        ensures answer { DeskAnswers result (take self.old.picture sub link cursor now)
+        ensures answer { DeskAnswers result
+            (take self.old.picture caller.sub caller.link cursor now)
             self.old.picture self.new.picture }
         ensures err { OnErr result (self.new ≡ self.old) }
         ensures draws { Draws 0 self.old self.new }
     {
-        let span = self.to_take(sub, link, cursor)?;
-        Ok(self.deliver(sub, link, span, now)?)
+        let span = self.to_take(caller, cursor)?;
+        Ok(self.deliver(caller, span, now)?)
     }
 
     /// Why `take` would refuse these numbers, or `None` where it would not. Does not change the
     /// desk.
-    pub(crate) fn refuses_take(&self, sub: u64, link: u64, cursor: u64) -> Option<DeskRefusal>
-        ensures { (now : ℕ) → result ≡ call_refusal (take self.now.picture sub link cursor now).0 }
+    pub(crate) fn refuses_take(&self, caller: Caller, cursor: u64) -> Option<DeskRefusal>
+        ensures { (now : ℕ) → result
+            ≡ call_refusal (take self.now.picture caller.sub caller.link cursor now).0 }
     {
-        self.to_take(sub, link, cursor).err()
+        self.to_take(caller, cursor).err()
     }
 
     /// Delivers the first span in the ready order whose subscription has room in its window. `now`
@@ -67,7 +68,7 @@ impl Board {
             Some(found) => found.link(),
             None => unreachable!(),
         };
-        Ok(self.deliver(sub, link, span, now)?)
+        Ok(self.deliver(Caller { sub, link }, span, now)?)
     }
 
     /// Why `take_any` would refuse, or `None` where it would not. Does not change the desk.
@@ -86,10 +87,10 @@ impl Board {
 impl Board {
     // the span that `take` delivers, or why it refuses
     #[tactic(auto, unfolding(crate::specs::Calls::take))]
-    fn to_take(&self, sub: u64, link: u64, cursor: u64) -> Result<Span, DeskRefusal>
-        ensures { FindsToTake result self.now.picture sub link cursor }
+    fn to_take(&self, caller: Caller, cursor: u64) -> Result<Span, DeskRefusal>
+        ensures { FindsToTake result self.now.picture caller.sub caller.link cursor }
     {
-        let found = self.linked(sub, link)?;
+        let found = self.linked(caller)?;
         if found.closed() {
             return Err(DeskRefusal::Closed);
         }
@@ -109,23 +110,23 @@ impl Board {
         })
     }
 
-    // Delivers a span to the subscription with this number, which has this link.
-    fn deliver(&mut self, sub: u64, link: u64, span: Span, now: u64) -> Result<Delivery, AllocError>
+    // Delivers a span to the caller's subscription, which has this link.
+    fn deliver(&mut self, caller: Caller, span: Span, now: u64) -> Result<Delivery, AllocError>
         requires left { AreLeft 0 self.old }
-        requires may { MayDeliver (deliveries_of self.old.picture) sub span }
-        requires linked { (q : Subscription) → slice_get self.old.picture.subscriptions sub ≡ Some q
-            → link ≡ q.link }
+        requires may { MayDeliver (deliveries_of self.old.picture) caller.sub span }
+        requires linked { (q : Subscription)
+            → slice_get self.old.picture.subscriptions caller.sub ≡ Some q → caller.link ≡ q.link }
         ensures ok { (delivery : Delivery) → result ≡ Ok delivery
-            → (q : Subscription) → slice_get self.old.picture.subscriptions sub ≡ Some q
-            → (delivery ≡ delivery_from self.old.picture sub q span)
-            × (self.new.picture ≡ delivered_picture self.old.picture sub q span
+            → (q : Subscription) → slice_get self.old.picture.subscriptions caller.sub ≡ Some q
+            → (delivery ≡ delivery_from self.old.picture caller.sub q span)
+            × (self.new.picture ≡ delivered_picture self.old.picture caller.sub q span
             (max self.old.picture.clock now)) }
         ensures err { OnErr result (self.new ≡ self.old) }
         ensures draws { Draws 0 self.old self.new }
     {
         let tick = self.clock.max(now);
-        let number = self.deliveries.deliver(sub, span, tick)?;
+        let number = self.deliveries.deliver(caller.sub, span, tick)?;
         self.clock = tick;
-        Ok(Delivery::of(number, sub, link, span))
+        Ok(Delivery::of(number, caller.sub, caller.link, span))
     }
 }

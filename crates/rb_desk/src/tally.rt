@@ -8,7 +8,7 @@ ghost use Rattle.rb_desk.specs.Journaled.{TallyAnswers, answer_after, closing_st
 ghost use Rattle.rb_desk.specs.Journaled.{tallied};
 ghost use Rattle.rb_desk.specs.Picture.{empty_picture};
 
-use crate::board::Board;
+use crate::board::{Board, Caller};
 use crate::config::Config;
 use crate::delivery::Delivery;
 use crate::refusal::{DeskError, DeskRefusal};
@@ -152,7 +152,7 @@ impl TalliedBoard {
             self.old self.new }
     {
         self.begin()?;
-        let delivery = self.board.take(sub, link, cursor, now)?;
+        let delivery = self.board.take(Caller { sub, link }, cursor, now)?;
         self.steps += 1;
         Ok(delivery)
     }
@@ -165,7 +165,7 @@ impl TalliedBoard {
         if self.is_full() {
             return Some(DeskRefusal::JournalFull);
         }
-        self.board.refuses_take(sub, link, cursor)
+        self.board.refuses_take(Caller { sub, link }, cursor)
     }
 
     /// Delivers the first span in the ready order whose subscription has room in its window.
@@ -204,7 +204,7 @@ impl TalliedBoard {
         ensures err { OnErr result (self.new ≡ self.old) }
     {
         self.begin()?;
-        let floor = self.board.ack(sub, link, delivery, cursor)?;
+        let floor = self.board.ack(Caller { sub, link }, delivery, cursor)?;
         self.steps += 1;
         Ok(floor)
     }
@@ -223,7 +223,8 @@ impl TalliedBoard {
         if self.is_full() {
             return Some(DeskRefusal::JournalFull);
         }
-        self.board.refuses_ack(sub, link, delivery, cursor)
+        self.board
+            .refuses_ack(Caller { sub, link }, delivery, cursor)
     }
 
     /// Negatively acknowledges a delivery. Does not allocate.
@@ -235,7 +236,7 @@ impl TalliedBoard {
         ensures err { OnErr result (self.new ≡ self.old) }
     {
         self.begin()?;
-        self.board.nack(sub, link, delivery)?;
+        self.board.nack(Caller { sub, link }, delivery)?;
         self.steps += 1;
         Ok(())
     }
@@ -248,7 +249,7 @@ impl TalliedBoard {
         if self.is_full() {
             return Some(DeskRefusal::JournalFull);
         }
-        self.board.refuses_nack(sub, link, delivery)
+        self.board.refuses_nack(Caller { sub, link }, delivery)
     }
 
     /// Negatively acknowledges a delivery and opens it.
@@ -257,7 +258,7 @@ impl TalliedBoard {
             self.old self.new }
     {
         self.begin()?;
-        let count = self.board.nack_opened(sub, link, delivery)?;
+        let count = self.board.nack_opened(Caller { sub, link }, delivery)?;
         self.steps += 1;
         Ok(count)
     }
@@ -270,7 +271,8 @@ impl TalliedBoard {
         if self.is_full() {
             return Some(DeskRefusal::JournalFull);
         }
-        self.board.refuses_nack_opened(sub, link, delivery)
+        self.board
+            .refuses_nack_opened(Caller { sub, link }, delivery)
     }
 
     /// Expires every delivery that has been out for the timeout or longer. Does not allocate.
@@ -321,7 +323,7 @@ impl TalliedBoard {
         ensures err { OnErr result (self.new ≡ self.old) }
     {
         self.begin()?;
-        self.board.unsubscribe(sub, link)?;
+        self.board.unsubscribe(Caller { sub, link })?;
         self.steps += 1;
         Ok(())
     }
@@ -334,7 +336,7 @@ impl TalliedBoard {
         if self.is_full() {
             return Some(DeskRefusal::JournalFull);
         }
-        self.board.refuses_unsubscribe(sub, link)
+        self.board.refuses_unsubscribe(Caller { sub, link })
     }
 
     /// Whether no step but a closing may come.

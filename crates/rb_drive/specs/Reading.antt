@@ -12,7 +12,7 @@ use Rattle.rb_script.specs.Words.{bytes_of, number_in_word, words_of}
 use Rattle.rb_drive.specs.declared.entries.LineEntry.{LineEntry}
 use Rattle.rb_drive.specs.declared.entries.LineEntry.TheVariants.{Table, Changeset}
 use Rattle.rb_drive.specs.declared.fault.DriveFault.{DriveFault}
-use Rattle.rb_drive.specs.declared.fault.DriveFault.TheVariants.{Line, Memory, Read}
+use Rattle.rb_drive.specs.declared.fault.DriveFault.TheVariants.{Line, Memory}
 use Rattle.rb_drive.specs.declared.input.Given.{Given}
 use Rattle.rb_drive.specs.declared.input.Input.{Input}
 use Rattle.rb_drive.specs.declared.input.Reading.{Reading}
@@ -107,11 +107,6 @@ abbrev pub ReadingStopsAt : List ℕ → Type 0 → DriveFault → Type 0
 ReadingStopsAt bytes at_end (Line n) = HasBadLine bytes at_end n
 ReadingStopsAt bytes at_end Memory = Unit {0}
 ReadingStopsAt bytes at_end other = ⊥
-
--- a fault of the reader
-abbrev pub IsReadFault : DriveFault → Type 0
-IsReadFault (Read why) = Unit {0}
-IsReadFault other = ⊥
 
 -- How going on over these bytes ends, after any others.
 abbrev pub ReadingGoesOn : Reading → List ℕ → Result (Unit {0}) DriveFault → Reading → Type 0

@@ -4,7 +4,7 @@
 ghost use Rattle.std.specs.Prelude.{◌≡◌};
 ghost use Rattle.rb_drive.specs.Owners.{beginning_of};
 
-use crate::kept::KeptSubscription;
+use crate::kept::{KeptSubscription, Settling};
 use crate::signs::Signs;
 use cs_apply::Conflict;
 use par_apply::Open;
@@ -95,9 +95,14 @@ fn accept_all<L: Hall, S: Alter, R: Threads + Wait + Sync>(
         match subscription.take(rt, alloc, broker) {
             Ok(delivery) => {
                 looks = 0;
-                let ended = settle(workers, alloc, broker, signs, subscription, &delivery);
-                if let Some(ending) = ended {
-                    return ending;
+                let accepted = subscription.accept(workers, alloc, broker, &delivery);
+                match settling(accepted, &delivery, signs) {
+                    Ok(how) => {
+                        if !subscription.settle(rt, alloc, broker, &delivery, how) {
+                            return SubscriberEnd::Stopped;
+                        }
+                    }
+                    Err(ending) => return ending,
                 }
             }
             Err(TakeError::Drained(_)) => return SubscriberEnd::Drained,
@@ -111,39 +116,28 @@ fn accept_all<L: Hall, S: Alter, R: Threads + Wait + Sync>(
     unreachable!()
 }
 
-// Accepts a delivery and acknowledges it. One whose entries this thread doesn't see yet goes back.
-// One of several entries that conflicts goes back opened. Returns how the subscriber ends, if it
-// does: a conflict of one entry ends it.
-fn settle<L: Hall, S: Alter, R: Threads + Wait + Sync>(
-    workers: &Workers<R, Open>,
-    alloc: Global,
-    broker: &Broker<L>,
-    signs: &Signs,
-    subscription: &mut KeptSubscription<L, S>,
+// How a delivery is settled after this answer to its accept, or how the subscriber ends. One whose
+// entries this thread doesn't see yet goes back. One of several entries that conflicts goes back
+// opened: those before the conflict are accepted alone. A conflict of one entry ends the subscriber.
+fn settling(
+    accepted: Result<u64, SubscriptionError>,
     delivery: &Delivery,
-) -> Option<SubscriberEnd>
-    ensures { beginning_of subscription.new ≡ beginning_of subscription.old }
-{
-    let rt = workers.rt;
-    let settled = match subscription.accept(workers, alloc, broker, delivery) {
-        Ok(_) => subscription.ack(rt, alloc, broker, delivery),
-        Err(SubscriptionError::Unseen { .. }) => subscription.nack(rt, alloc, broker, delivery),
+    signs: &Signs,
+) -> Result<Settling, SubscriberEnd> {
+    match accepted {
+        Ok(_) => Ok(Settling::Ack),
+        Err(SubscriptionError::Unseen { .. }) => Ok(Settling::Nack),
         Err(SubscriptionError::Refused(AcceptRefusal::Conflict(conflict))) => {
             if delivery.first() == delivery.last() {
-                return Some(SubscriberEnd::Conflict(conflict));
+                Err(SubscriberEnd::Conflict(conflict))
+            } else {
+                Ok(Settling::NackOpened)
             }
-            // one of its entries conflicts: those before it are accepted alone
-            subscription.nack_opened(rt, alloc, broker, delivery)
         }
         Err(SubscriptionError::Refused(AcceptRefusal::Store)) => {
             signs.fail_store();
-            false
+            Err(SubscriberEnd::Stopped)
         }
-        Err(_) => false,
-    };
-    if settled {
-        None
-    } else {
-        Some(SubscriberEnd::Stopped)
+        Err(_) => Err(SubscriberEnd::Stopped),
     }
 }

@@ -361,25 +361,6 @@ fn taken_apart<L: Hall>(
         (flat_map (λ one. one.faulty.items) publishing.items) r.2.items) }
     ensures err { IfErr result IsOfThreads }
 {
-    let (publishers, unsent, mut faulty) = all_apart(alloc, publishing)?;
-    faulty.sort_unstable_by_key(|one| one.line);
-    Ok((publishers, unsent, faulty))
-}
-
-// the same, with the faulty lines of one publisher after another
-fn all_apart<L: Hall>(
-    alloc: Global,
-    publishing: Vec<Publishing<L>>,
-) -> Result<(Vec<Publisher<L>>, u64, Vec<FaultyLine>), DriveFault>
-    ensures publishers { IfOk result (λ r. r.0.items
-        ≡ map (λ one. one.publisher) publishing.items) }
-    ensures unsent { IfOk result (λ r. r.1 ≡ unsent_lines
-        (map (λ one. one.lines.items) publishing.items)
-        (map (λ one. one.done) publishing.items)) }
-    ensures faulty { IfOk result (λ r. r.2.items
-        ≡ flat_map (λ one. one.faulty.items) publishing.items) }
-    ensures err { IfErr result IsOfThreads }
-{
     let mut publishers = Vec::with_capacity(alloc, publishing.len())?;
     let mut unsent: u64 = 0;
     let mut faulty = Vec::new(alloc);
@@ -396,5 +377,6 @@ fn all_apart<L: Hall>(
         unsent = unsent.checked_add(rest).ok_or(DriveFault::Stopped)?;
         faulty.extend_from_slice(&some)?;
     }
+    faulty.sort_unstable_by_key(|one| one.line);
     Ok((publishers, unsent, faulty))
 }

@@ -1,12 +1,9 @@
 //! Reads the input of a drive, line by line, up to its end or its first bad line.
 
-ghost use Rattle.std.specs.Prelude.{◌≡◌, ◌+◌, ◌<◌, ◌≤◌, ◌∷◌, [], length, take, vec_len};
-ghost use Rattle.std.specs.Prelude.{IfOk, OnErr, IfErr, Some};
-ghost use Rattle.std.specs.Io.KnownBytes.{Consumes, Keeps, IsAtEnd};
+ghost use Rattle.std.specs.Prelude.{◌≡◌, ◌+◌, ◌∷◌, [], length, vec_len, IfOk, Some};
 ghost use Rattle.rb_drive.specs.Input.{InputEnds};
 ghost use Rattle.rb_drive.specs.Reading.{AddEnds, EndsAfter, ReadingGoesOn, IsReadUpTo, with_entry};
 ghost use Rattle.rb_drive.specs.Reading.{with_line};
-ghost use Rattle.rb_drive.specs.Reading.{IsReadFault};
 ghost use Rattle.rb_drive.specs.declared.entries.LineEntry.TheVariants.{Table, Changeset};
 
 use crate::entries::{LineEntry, entry_in};
@@ -60,7 +57,10 @@ pub fn read_input<R: Read>(alloc: Global, reader: &mut R) -> Result<Input, Drive
     let piece = buffer.as_mut_slice();
     let mut reading = nothing_read(alloc);
     for _ in 0..u64::MAX {
-        let read = read_piece(reader, piece)?;
+        let read = match read_some(reader, piece) {
+            Ok(n) => n,
+            Err(why) => return Err(DriveFault::Read(why)),
+        };
         if read == 0 {
             return finish(alloc, reading);
         }
@@ -85,22 +85,6 @@ fn nothing_read(alloc: Global) -> Reading
             givens: Vec::new(alloc),
         },
         line: Vec::new(alloc),
-    }
-}
-
-fn read_piece<R: Read>(reader: &mut R, piece: &mut [u8]) -> Result<usize, DriveFault>
-    requires { 0 < length piece.old }
-    ensures length { length piece.new ≡ length piece.old }
-    ensures bound { IfOk result (λ n. n ≤ length piece.new) }
-    ensures bytes { IfOk result (λ n. Consumes (R.remaining reader.old) (R.remaining reader.new)
-        (take n piece.new)) }
-    ensures end { IfOk result (λ n. n ≡ 0 → IsAtEnd (R.remaining reader.new)) }
-    ensures err { OnErr result (Keeps (R.remaining reader.old) (R.remaining reader.new)) }
-    ensures fault { IfErr result IsReadFault }
-{
-    match read_some(reader, piece) {
-        Ok(n) => Ok(n),
-        Err(why) => Err(DriveFault::Read(why)),
     }
 }
 

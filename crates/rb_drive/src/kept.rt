@@ -1,9 +1,10 @@
 //! A subscription, and the replica that keeps its rows and its cursor, if it has one.
 
-ghost use Rattle.std.specs.Prelude.{◌≡◌, IfSome};
+ghost use Rattle.std.specs.{Prelude.{◌≡◌, IfSome}, Coded.{codes}};
 ghost use Rattle.sqlite.specs.Held.{state};
-ghost use Rattle.rb_drive.specs.Kept.{KeepsSubscription};
-ghost use Rattle.rb_drive.specs.Owners.{beginning_of};
+ghost use Rattle.cs_apply.specs.State.{state_code};
+ghost use Rattle.rb_subscriber.specs.Subscription.{SubscriptionState};
+ghost use Rattle.rb_drive.specs.{Kept.{KeepsSubscription}, Owners.{beginning_of}};
 
 use par_apply::Open;
 use rb_broker::{Broker, Hall, TakeError};
@@ -16,6 +17,17 @@ use std::marker::Model;
 use std::sync::Wait;
 use std::thread::Threads;
 
+/// How a delivery that was taken is settled.
+#[derive(Clone, Copy)]
+pub enum Settling {
+    /// It is acknowledged: the subscription has accepted it.
+    Ack,
+    /// It is given back.
+    Nack,
+    /// It is given back and opened.
+    NackOpened,
+}
+
 /// A subscription with its replica, if it has one. Until the subscription falls, the replica has
 /// its rows and its cursor.
 #[derive(Drop)]
@@ -25,13 +37,6 @@ pub struct KeptSubscription<L: Hall, S: Alter> {
 }
 
 impl<L: Hall, S: Alter> Model for KeptSubscription<L, S> {
-    ghost use Rattle.std.specs.Prelude.{IfSome};
-    ghost use Rattle.sqlite.specs.Held.{state};
-    ghost use Rattle.rb_drive.specs.Kept.{KeepsSubscription};
-    ghost use Rattle.std.specs.Coded.{codes};
-    ghost use Rattle.cs_apply.specs.State.{state_code};
-    ghost use Rattle.rb_subscriber.specs.Subscription.{SubscriptionState};
-
     ghost Value = { SubscriptionState };
 
     ghost coded = { Prim.hlevel (codes, state_code) };
@@ -92,49 +97,25 @@ impl<L: Hall, S: Alter> KeptSubscription<L, S> {
         accept_into(workers, alloc, broker, subscription, replica, delivery)
     }
 
-    /// Acknowledges a delivery that it has accepted. False if it is refused.
-    pub fn ack<R: Wait>(
+    /// Settles a delivery. False if that is refused.
+    pub fn settle<R: Wait>(
         &mut self,
         rt: &R,
         alloc: Global,
         broker: &Broker<L>,
         delivery: &Delivery,
+        how: Settling,
     ) -> bool
         ensures { beginning_of self.new ≡ beginning_of self.old }
     {
-        broker
-            .ack(rt, alloc, &mut self.subscription, delivery)
-            .is_ok()
-    }
-
-    /// Gives a delivery back and opens it. False if it is refused.
-    pub fn nack_opened<R: Wait>(
-        &mut self,
-        rt: &R,
-        alloc: Global,
-        broker: &Broker<L>,
-        delivery: &Delivery,
-    ) -> bool
-        ensures { beginning_of self.new ≡ beginning_of self.old }
-    {
-        broker
-            .nack_opened(rt, alloc, &mut self.subscription, delivery)
-            .is_ok()
-    }
-
-    /// Gives a delivery back. False if it is refused.
-    pub fn nack<R: Wait>(
-        &mut self,
-        rt: &R,
-        alloc: Global,
-        broker: &Broker<L>,
-        delivery: &Delivery,
-    ) -> bool
-        ensures { beginning_of self.new ≡ beginning_of self.old }
-    {
-        broker
-            .nack(rt, alloc, &mut self.subscription, delivery)
-            .is_ok()
+        let subscription = &mut self.subscription;
+        match how {
+            Settling::Ack => broker.ack(rt, alloc, subscription, delivery).is_ok(),
+            Settling::Nack => broker.nack(rt, alloc, subscription, delivery).is_ok(),
+            Settling::NackOpened => broker
+                .nack_opened(rt, alloc, subscription, delivery)
+                .is_ok(),
+        }
     }
 }
 

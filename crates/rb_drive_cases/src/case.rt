@@ -4,7 +4,7 @@ use crate::replica::replica_lines;
 use rb_case_files::{Options, difference, lines, read_if_there};
 use rb_drive::{DriveFault, run_drive, run_durable_drive};
 use sqlite::{Connection, Error, FileStore};
-use sqlite_disk::Disk;
+use sqlite_disk::{Disk, Memory};
 use std::alloc::{AllocError, Global};
 use std::sync::Wait;
 use std::thread::Threads;
@@ -50,20 +50,7 @@ impl DriveCase {
         threads: &T,
         alloc: Global,
     ) -> Result<Result<usize, String>, AllocError> {
-        let Some(options) = Options::of(&self.options) else {
-            return Ok(Err(String::from_str(alloc, "no such options")?));
-        };
-        let mut reader: &[u8] = &self.input;
-        let mut written = Vec::new(alloc);
-        let ended = run_drive(
-            threads,
-            alloc,
-            &mut reader,
-            &mut written,
-            options.config,
-            options.subscribers,
-        );
-        self.compare(alloc, &ended, &written)
+        self.run_over::<T, Memory>(threads, alloc, None)
     }
 
     /// The same, with a replica of the first subscriber in this database.
@@ -73,20 +60,38 @@ impl DriveCase {
         alloc: Global,
         file: Result<Connection<FileStore<D>>, Error>,
     ) -> Result<Result<usize, String>, AllocError> {
+        self.run_over(threads, alloc, Some(file))
+    }
+
+    // a drive whose first subscriber has a replica in this database, if there is one
+    fn run_over<T: Threads + Wait + Sync, D: Disk + Drop + Send>(
+        &self,
+        rt: &T,
+        alloc: Global,
+        file: Option<Result<Connection<FileStore<D>>, Error>>,
+    ) -> Result<Result<usize, String>, AllocError> {
         let Some(options) = Options::of(&self.options) else {
             return Ok(Err(String::from_str(alloc, "no such options")?));
         };
+        let Options {
+            config,
+            subscribers,
+            ..
+        } = options;
         let mut reader: &[u8] = &self.input;
         let mut written = Vec::new(alloc);
-        let ended = run_durable_drive(
-            threads,
-            alloc,
-            &mut reader,
-            &mut written,
-            options.config,
-            options.subscribers,
-            file,
-        );
+        let ended = match file {
+            None => run_drive(rt, alloc, &mut reader, &mut written, config, subscribers),
+            Some(file) => run_durable_drive(
+                rt,
+                alloc,
+                &mut reader,
+                &mut written,
+                config,
+                subscribers,
+                file,
+            ),
+        };
         self.compare(alloc, &ended, &written)
     }
 

@@ -1,15 +1,19 @@
 -- Words of options, and commands with a version.
-use Rattle.std.proofs.Common.{◌≡◌, ◌∙◌, ℕ, List, ap, sym, option_map, Option, Some, None, true, Result, refl, subst}
+use Rattle.std.proofs.Common.{◌≡◌, ◌∙◌, ◌||◌, ℕ, List, ap, ap₂, sym, option_map, Option, Some, None, true, Result}
+use Rattle.std.proofs.Common.{refl, subst}
 use Rattle.std.specs.Option.{option_and_then}
 use Rattle.std.proofs.lemmas.Option.{none-some}
 use Rattle.clap.specs.Matches.{first_value}
-use Rattle.clap.specs.Simple.{App, HasMatchesOf, is_simple, subcommand_of, subcommand_rows_of}
+use Rattle.clap.specs.Built.{AddsArg}
+use Rattle.clap.specs.Simple.{App, HasMatchesOf, Shape, is_simple, subcommand_of, subcommand_rows_of, with_rule}
+use Rattle.clap.specs.declared.builder.arg.Arg.{Arg}
+use Rattle.clap.specs.declared.builder.command.Command.{Command}
 use Rattle.clap.specs.Faults.{fault_of, is_simple_and_free}
 use Rattle.clap.specs.Kinds.{FailsBy}
 use Rattle.clap.specs.declared.error.Error.{Error}
 use Rattle.clap.specs.declared.parser.matches.ArgMatches.{ArgMatches}
-use Rattle.rb_run.specs.Program.{program, wrong_in}
-use Rattle.clap.specs.Walk.{Row, Text, first_of, rows_of}
+use Rattle.rb_run.specs.Program.{IsCommand, IsOption, program, wrong_in}
+use Rattle.clap.specs.Walk.{Row, Rule, Text, first_of, rows_of}
 use Rattle.clap.specs.declared.parser.matches.Found.{Found}
 use Rattle.clap.proofs.WalkLemmas.{first_value-rows}
 use Rattle.rb_run.specs.Options.{given_by}
@@ -29,6 +33,16 @@ versioned a = record a { top = record a.top { has_version = true } }
 -- a command that needs a subcommand
 abbrev pub asking : App → App
 asking a = record a { top = record a.top { subcommand_required = true } }
+
+-- the command itself
+abbrev pub top_of : App → Shape
+top_of a = a.top
+
+-- one option more
+pub with_option : (old new : Command) (arg : Arg) (app : App) (rule : Rule) → AddsArg old arg new → IsCommand old app
+    → IsOption arg rule → IsCommand new (with_rule app rule)
+with_option old new arg app rule adds was is =
+    (adds.shape is.1 ∙ ap₂ with_rule was.0 is.0, adds.globals ∙ ap₂ (λ a b. a || b) was.1 is.1)
 
 -- ---- the program's words
 

@@ -4,7 +4,7 @@ use Rattle.std.specs.Prelude.{ℕ, Bool, false, List, [], Option, Some, None, Re
 use Rattle.std.specs.Prelude.{if◌then◌else◌, ◌&&◌, nat_le}
 use Rattle.std.specs.Option.{option_and_then}
 use Rattle.clap.specs.Walk.{Row, Text, first_of}
-use Rattle.rb_desk.specs.Limits.{Limits, first_out_of_range}
+use Rattle.rb_desk.specs.Limits.{Limits, six_limits, first_out_of_range}
 use Rattle.rb_desk.specs.declared.config.ConfigFault.{ConfigFault}
 use Rattle.rb_desk.specs.declared.config.ConfigFault.TheVariants.{Batch, Window, Timeout, Capacity}
 use Rattle.rb_desk.specs.declared.config.ConfigFault.TheVariants.{Intake, Appliers}
@@ -32,14 +32,7 @@ limits_or (Some fault) limits = Err fault
 abbrev pub limits_of : ℕ → ℕ → ℕ → ℕ → ℕ → ℕ → Result Limits ConfigFault
 limits_of batch window timeout capacity intake appliers =
     limits_or (first_out_of_range batch window timeout capacity intake appliers)
-    (record {
-      batch = batch;
-      window = window;
-      timeout = timeout;
-      capacity = capacity;
-      intake = intake;
-      appliers = appliers;
-    })
+    (six_limits batch window timeout capacity intake appliers)
 
 -- the limits from the options' words and a number of appliers, or the first option whose word isn't
 -- a number in its range

@@ -6,8 +6,12 @@ use Rattle.std.specs.Prelude.{Ok, Err, codes, option_map}
 use Rattle.std.specs.Io.KnownBytes.{Keeps}
 use Rattle.clap.specs.Faults.{fault_of}
 use Rattle.clap.specs.Kinds.{Kinds, HasKind}
-use Rattle.clap.specs.Simple.{App, Shape, new_rule, new_shape, subcommand_of, with_rule}
-use Rattle.clap.specs.Walk.{Rule, Text}
+use Rattle.clap.specs.Simple.{App, Shape, app_of, new_rule, new_shape, subcommand_of, with_rule}
+use Rattle.clap.specs.Walk.{Rule, Text, rule_of}
+use Rattle.clap.specs.declared.builder.arg.Arg.{Arg}
+use Rattle.clap.specs.declared.builder.command.Command.{Command}
+use Rattle.clap.specs.declared.builder.command.Command.TheViews.{out-Command}
+use Rattle.clap.specs.declared.builder.action.ArgAction.{ArgAction}
 use Rattle.clap.specs.declared.builder.action.ArgAction.TheVariants.{Set, SetTrue}
 use Rattle.clap.specs.Values.{kind_of}
 use Rattle.clap.specs.declared.error.Error.{Error}
@@ -34,23 +38,22 @@ use Rattle.rb_show.specs.declared.show_fault.ShowFault.{ShowFault}
 use Rattle.rb_script.specs.Ends.{ScriptEnds}
 use Rattle.rb_show.specs.Showing.{ShowEnds}
 
+-- an option with this name after two dashes
+abbrev pub long_option : Text → ArgAction → Rule
+long_option name action = record (new_rule name) { long = Some name; action = Some action }
+
 -- an option that takes a number, with its usual number
 abbrev pub limit_option : Text → Text → Rule
-limit_option name usual = record (new_rule name) {
-  long = Some name;
-  action = Some Set;
-  value_names = 1;
-  defaults = usual ∷ [];
-}
+limit_option name usual =
+    record (long_option name Set) { value_names = 1; defaults = usual ∷ [] }
 
 -- an option that takes a path, and has none if it isn't given
 abbrev pub path_option : Text → Rule
-path_option name =
-    record (new_rule name) { long = Some name; action = Some Set; value_names = 1 }
+path_option name = record (long_option name Set) { value_names = 1 }
 
 -- an option that is set or not
 abbrev pub flag_option : Text → Rule
-flag_option name = record (new_rule name) { long = Some name; action = Some SetTrue }
+flag_option name = long_option name SetTrue
 
 -- the limits of a broker, each with its usual number
 abbrev pub limit_options : List Rule
@@ -63,6 +66,14 @@ limit_options =
 abbrev pub with_rules : App → List Rule → App
 with_rules app [] = app
 with_rules app (rule ∷ rules) = with_rules (with_rule app rule) rules
+
+-- a command without subcommands
+abbrev pub lone_command : Shape → App
+lone_command top = record { top = top; subs = [] }
+
+-- a subcommand that has a version, and no options yet
+abbrev pub new_subcommand : Text → App
+new_subcommand name = lone_command (record (new_shape name) { has_version = true })
 
 -- `script`, with its options
 abbrev pub script_command : Shape
@@ -96,6 +107,14 @@ program = record {
   };
   subs = script_command ∷ drive_command ∷ show_command ∷ [];
 }
+
+-- an argument that was built is this option, and isn't global
+abbrev pub IsOption : Arg → Rule → Type 0
+IsOption arg rule = (rule_of arg ≡ rule) × (arg.global ≡ false)
+
+-- a command that was built is this one, and has no global option
+abbrev pub IsCommand : Command → App → Type 0
+IsCommand command app = (app_of command ≡ app) × ((out-Command command).has_globals ≡ false)
 
 -- the limits that the words ask for, or the first option whose word isn't a number in its range
 abbrev pub config_in : List Text → Result Limits ConfigFault

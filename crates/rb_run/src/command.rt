@@ -1,11 +1,11 @@
 //! The command line: its options and its help.
 
-ghost use Rattle.std.specs.Prelude.{◌≡◌, false, IfOk};
-ghost use Rattle.clap.specs.Words.{app_of, rule_of};
-ghost use Rattle.clap.specs.declared.builder.command.Command.TheViews.{out-Command};
-ghost use Rattle.rb_run.specs.Program.{drive_command, flag_option, limit_option, limit_options};
-ghost use Rattle.rb_run.specs.Program.{path_option, program, script_command, show_command};
-ghost use Rattle.rb_run.specs.Program.{with_rules};
+ghost use Rattle.std.specs.Prelude.{◌≡◌, IfOk};
+ghost use Rattle.clap.specs.Words.{app_of};
+ghost use Rattle.rb_run.specs.Program.{IsCommand, IsOption, drive_command, flag_option};
+ghost use Rattle.rb_run.specs.Program.{limit_option, limit_options, lone_command, long_option};
+ghost use Rattle.rb_run.specs.Program.{new_subcommand, path_option, program, script_command};
+ghost use Rattle.rb_run.specs.Program.{show_command, with_rules};
 
 use clap::{Arg, ArgAction, Command};
 use std::alloc::{AllocError, Global};
@@ -125,9 +125,10 @@ pub fn program<'a>(alloc: Global) -> Result<Command<'a>, AllocError>
 
 // the subcommand `script`
 fn script<'a>(alloc: Global) -> Result<Command<'a>, AllocError>
-    ensures app { IfOk result (λ command. (app_of command).top ≡ script_command) }
-    ensures local { IfOk result (λ command. (out-Command command).has_globals ≡ false) }
+    ensures { IfOk result (λ command. IsCommand command (lone_command script_command)) }
 {
+    let about = "Answers the lines of a script on standard input, one after another";
+    let command = limited(alloc, "script", about, LINES)?;
     let numbers = flag(
         alloc,
         "numbers",
@@ -138,18 +139,15 @@ fn script<'a>(alloc: Global) -> Result<Command<'a>, AllocError>
         "strict",
         "Stop after the first line that is refused or faulty",
     );
-    let command = Command::new(alloc, "script")
-        .version(VERSION)
-        .about("Answers the lines of a script on standard input, one after another")
-        .after_help(LINES);
-    limited(alloc, command)?.arg(numbers)?.arg(strict)
+    command.arg(numbers)?.arg(strict)
 }
 
 // the subcommand `drive`
 fn drive<'a>(alloc: Global) -> Result<Command<'a>, AllocError>
-    ensures app { IfOk result (λ command. (app_of command).top ≡ drive_command) }
-    ensures local { IfOk result (λ command. (out-Command command).has_globals ≡ false) }
+    ensures { IfOk result (λ command. IsCommand command (lone_command drive_command)) }
 {
+    let about = "Drives a broker with the changesets on standard input, in threads";
+    let command = limited(alloc, "drive", about, DRIVEN)?;
     let subscribers = limit(alloc, "subscribers", "1", "How many subscribers, 1 to 16");
     let appliers = limit(
         alloc,
@@ -162,22 +160,18 @@ fn drive<'a>(alloc: Global) -> Result<Command<'a>, AllocError>
         "replica",
         "Keep the rows of subscriber 0 in an SQLite database at FILE, which must be new or empty",
     );
-    let command = Command::new(alloc, "drive")
-        .version(VERSION)
-        .about("Drives a broker with the changesets on standard input, in threads")
-        .after_help(DRIVEN);
-    limited(alloc, command)?
-        .arg(subscribers)?
-        .arg(appliers)?
-        .arg(replica)
+    command.arg(subscribers)?.arg(appliers)?.arg(replica)
 }
 
-// a subcommand with the five limits of a broker as its next options
-fn limited<'a>(alloc: Global, command: Command<'a>) -> Result<Command<'a>, AllocError>
-    requires { (out-Command command).has_globals ≡ false }
-    ensures app { IfOk result (λ made. app_of made
-        ≡ with_rules (app_of command.entry) limit_options) }
-    ensures local { IfOk result (λ made. (out-Command made).has_globals ≡ false) }
+// a subcommand whose first options are the five limits of a broker
+fn limited<'a>(
+    alloc: Global,
+    name: &'a str,
+    about: &'a str,
+    after: &'a str,
+) -> Result<Command<'a>, AllocError>
+    ensures { IfOk result (λ made. IsCommand made
+        (with_rules (new_subcommand name.now) limit_options)) }
 {
     let batch = limit(
         alloc,
@@ -209,7 +203,7 @@ fn limited<'a>(alloc: Global, command: Command<'a>) -> Result<Command<'a>, Alloc
         "64",
         "The most changesets that wait to be placed, 1 to 4096",
     );
-    command
+    subcommand(alloc, name, about, after)
         .arg(batch)?
         .arg(window)?
         .arg(timeout)?
@@ -219,49 +213,49 @@ fn limited<'a>(alloc: Global, command: Command<'a>) -> Result<Command<'a>, Alloc
 
 // the subcommand `show`
 fn show<'a>(alloc: Global) -> Result<Command<'a>, AllocError>
-    ensures app { IfOk result (λ command. (app_of command).top ≡ show_command) }
-    ensures local { IfOk result (λ command. (out-Command command).has_globals ≡ false) }
+    ensures { IfOk result (λ command. IsCommand command (lone_command show_command)) }
 {
     let json = flag(alloc, "json", "Write each row as a JSON object");
-    Command::new(alloc, "show")
+    let about = "Shows the rows in a script's answers on standard input, a line each";
+    subcommand(alloc, "show", about, ROWS).arg(json)
+}
+
+// a subcommand that has no options yet, with the text that its help ends with
+fn subcommand<'a>(alloc: Global, name: &'a str, about: &'a str, after: &'a str) -> Command<'a>
+    ensures { IsCommand result (new_subcommand name.now) }
+{
+    Command::new(alloc, name)
         .version(VERSION)
-        .about("Shows the rows in a script's answers on standard input, a line each")
-        .after_help(ROWS)
-        .arg(json)
+        .about(about)
+        .after_help(after)
 }
 
 // an option that takes a number
 fn limit<'a>(alloc: Global, name: &'a str, usual: &'a str, help: &'a str) -> Arg<'a>
-    ensures rule { rule_of result ≡ limit_option name.now usual.now }
-    ensures local { result.global ≡ false }
+    ensures { IsOption result (limit_option name.now usual.now) }
 {
-    Arg::new(alloc, name)
-        .long(name)
-        .action(ArgAction::Set)
+    option(alloc, name, ArgAction::Set, help)
         .value_name("N")
         .default_value(usual)
-        .help(help)
 }
 
 // an option that takes a path, and has none if it isn't given
 fn path<'a>(alloc: Global, name: &'a str, help: &'a str) -> Arg<'a>
-    ensures rule { rule_of result ≡ path_option name.now }
-    ensures local { result.global ≡ false }
+    ensures { IsOption result (path_option name.now) }
 {
-    Arg::new(alloc, name)
-        .long(name)
-        .action(ArgAction::Set)
-        .value_name("FILE")
-        .help(help)
+    option(alloc, name, ArgAction::Set, help).value_name("FILE")
 }
 
 // an option that is set or not
 fn flag<'a>(alloc: Global, name: &'a str, help: &'a str) -> Arg<'a>
-    ensures rule { rule_of result ≡ flag_option name.now }
-    ensures local { result.global ≡ false }
+    ensures { IsOption result (flag_option name.now) }
 {
-    Arg::new(alloc, name)
-        .long(name)
-        .action(ArgAction::SetTrue)
-        .help(help)
+    option(alloc, name, ArgAction::SetTrue, help)
+}
+
+// an option with this name after two dashes
+fn option<'a>(alloc: Global, name: &'a str, action: ArgAction, help: &'a str) -> Arg<'a>
+    ensures { IsOption result (long_option name.now action) }
+{
+    Arg::new(alloc, name).long(name).action(action).help(help)
 }

@@ -1,14 +1,14 @@
 //! Runs a script from a reader to a writer.
 
-ghost use Rattle.std.specs.Prelude.{◌≡◌, ◌+◌, ◌-◌, ◌<◌, ◌≤◌, ◌^◌, ◌∷◌, [], ℕ, List, length, take};
-ghost use Rattle.std.specs.Prelude.{false, vec_len, Ok, Err, OnOk, OnErr, IfErr, IfOk};
-ghost use Rattle.std.specs.Io.KnownBytes.{Appends, Consumes, Keeps, IsAtEnd};
+ghost use Rattle.std.specs.Prelude.{◌≡◌, ◌+◌, ◌-◌, ◌<◌, ◌^◌, ◌∷◌, [], ℕ, List, length, take};
+ghost use Rattle.std.specs.Prelude.{false, vec_len, Ok, Err, OnOk, IfErr, IfOk};
+ghost use Rattle.std.specs.Io.KnownBytes.{Appends};
 ghost use Rattle.rb_script.specs.declared.lines.Stage.TheVariants.{Tables};
 ghost use Rattle.rb_script.specs.Lines.{line_answer};
 ghost use Rattle.rb_script.specs.Output.{place_at, longer};
 ghost use Rattle.rb_script.specs.Answering.{numbered_answer, stops_after};
 ghost use Rattle.rb_script.specs.Feeding.{AreFed, StopsIn, fed_lines, line_at};
-ghost use Rattle.rb_script.specs.Ends.{ScriptEnds, IsOfReader};
+ghost use Rattle.rb_script.specs.Ends.{ScriptEnds};
 
 use crate::answering::{Answering, RefusedLine};
 use crate::fault::ScriptFault;
@@ -93,7 +93,10 @@ fn answer_all<R: Read, W: Write>(
     for _ in 0..=MOST_OF_SCRIPT {
         // the caller has its answers before the next read waits
         hand_on(writer)?;
-        let read = read_piece(reader, piece)?;
+        let read = match read_some(reader, piece) {
+            Ok(read) => read,
+            Err(why) => return Err(ScriptFault::Read(why)),
+        };
         if read == 0 {
             answer_line(alloc, config, how, place, writer)?;
             return Ok(());
@@ -125,22 +128,6 @@ fn first_place(alloc: Global) -> Place
         stage: Stage::Tables(Schema::empty(alloc)),
         number: 1,
         line: Vec::new(alloc),
-    }
-}
-
-fn read_piece<R: Read>(reader: &mut R, piece: &mut [u8]) -> Result<usize, ScriptFault>
-    requires { 0 < length piece.old }
-    ensures length { length piece.new ≡ length piece.old }
-    ensures bound { IfOk result (λ n. n ≤ length piece.new) }
-    ensures bytes { IfOk result (λ n. Consumes (R.remaining reader.old) (R.remaining reader.new)
-        (take n piece.new)) }
-    ensures end { IfOk result (λ n. n ≡ 0 → IsAtEnd (R.remaining reader.new)) }
-    ensures err { OnErr result (Keeps (R.remaining reader.old) (R.remaining reader.new)) }
-    ensures fault { IfErr result IsOfReader }
-{
-    match read_some(reader, piece) {
-        Ok(n) => Ok(n),
-        Err(why) => Err(ScriptFault::Read(why)),
     }
 }
 

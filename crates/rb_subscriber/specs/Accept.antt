@@ -86,6 +86,11 @@ AsksNoEntries (refusal.Shape number) = ⊥
 AsksNoEntries (refusal.Conflict conflict) = ⊥
 AsksNoEntries other = Unit {0}
 
+-- a refusal that comes before the tables are asked
+abbrev pub AsksNoTables : AcceptRefusal → Type 0
+AsksNoTables (refusal.Conflict conflict) = ⊥
+AsksNoTables other = Unit {0}
+
 abbrev pub taken_unless_refused : Option AcceptRefusal → Result Endpoint AcceptRefusal
     → Result Endpoint AcceptRefusal
 taken_unless_refused None taken = taken

@@ -1,11 +1,10 @@
 //! Accepting into a durable store: the subscription's rows and its cursor are there, too.
 
-ghost use Rattle.std.specs.Prelude.{◌≡◌, ◌<◌, ◌+◌, suc, None, OnErr, OnOk, length};
+ghost use Rattle.std.specs.Prelude.{◌≡◌, ◌+◌, None, OnErr, OnOk, length};
 ghost use Rattle.par_apply.specs.RowChanges.{overlaid};
-ghost use Rattle.rb_subscriber.specs.Accept.{refusal_before};
 ghost use Rattle.rb_subscriber.specs.AcceptShown.{ConflictsShown};
-ghost use Rattle.rb_subscriber.specs.Durable.{DurableAnswers, IfFell, KeptAnswers};
-ghost use Rattle.rb_subscriber.specs.Subscription.{cursor_of, own_endpoint};
+ghost use Rattle.rb_subscriber.specs.Durable.{DurableAnswers, IfFell};
+ghost use Rattle.rb_subscriber.specs.Subscription.{cursor_of};
 
 use crate::applier::Workers;
 use crate::keeping::KeepError;
@@ -51,37 +50,9 @@ impl<L: StepLedger> Subscription<L> {
         ensures unasked { OnErr result (self.new.pending ≡ self.old.pending
             → store.new ≡ store.old) }
     {
-        match self.refuses(delivery) {
-            Some(why) => Err(SubscriptionError::Refused(why)),
-            None => self.keep_due(workers, alloc, sequence, store, delivery),
+        if let Some(why) = self.refuses(delivery) {
+            return Err(SubscriptionError::Refused(why));
         }
-    }
-
-    // `accept_durable`, for a delivery that begins right after the cursor
-    fn keep_due<R: Threads + Sync, G: Gate, S: DurableRows>(
-        &mut self,
-        workers: &Workers<R, G>,
-        alloc: Global,
-        sequence: &Sequence,
-        store: &mut S,
-        delivery: &Delivery,
-    ) -> Result<u64, SubscriptionError>
-        requires cells { sequence.now ≡ L.cells }
-        requires free { refusal_before (own_endpoint self.old) delivery.now ≡ None }
-        requires none { self.old.pending ≡ None }
-        requires due { (delivery.now.first ≡ suc (cursor_of self.old))
-            × (cursor_of self.old < delivery.now.last) }
-        requires kept { S.keeps store.old self.old.tables.rows (cursor_of self.old) }
-        ensures answers { KeptAnswers L.cells delivery.now result self.old self.new }
-        ensures conflicts { ConflictsShown L.cells delivery.now self.old.tables result }
-        ensures kept { OnOk result (S.keeps store.new self.new.tables.rows (cursor_of self.new)) }
-        ensures leaves { IfFell self.old.pending self.new.pending (λ pending.
-            S.leaves store.new self.old.tables.rows (cursor_of self.old)
-            (overlaid self.old.tables.rows pending.changes)
-            (cursor_of self.old + length pending.tokens)) }
-        ensures unasked { OnErr result (self.new.pending ≡ self.old.pending
-            → store.new ≡ store.old) }
-    {
         let schema = self.end.tables().schema();
         let shown = tokens_of(alloc, sequence, &mut self.told, schema, delivery)?;
         let entries = Shown {

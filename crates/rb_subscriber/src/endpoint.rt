@@ -1,14 +1,16 @@
 //! `Endpoint`: accepts deliveries and holds the subscriber's tables.
 
 ghost use Rattle.std.specs.Prelude.{◌≡◌, ◌≤◌, ◌<◌, ◌-◌, suc, true, false, length, IfNone, IfSome};
-ghost use Rattle.std.specs.Prelude.{OnOk};
+ghost use Rattle.std.specs.Prelude.{IfOk, None, Err, OnOk};
+ghost use Rattle.std.specs.List.{AllByRecursion};
 ghost use Rattle.std.specs.Coded.{codes};
 ghost use Rattle.cs_apply.specs.Columns.{HaveColumns};
 ghost use Rattle.cs_apply.specs.State.{state_code};
 ghost use Rattle.rb_subscriber.specs.Accept.{accept, accept_brought, AcceptAnswers, AppliesSingly};
-ghost use Rattle.rb_subscriber.specs.Accept.{AreChangesets, AsksNoEntries, refusal_before};
+ghost use Rattle.rb_subscriber.specs.Accept.{AreChangesets, AsksNoEntries, AsksNoTables};
+ghost use Rattle.rb_subscriber.specs.Accept.{IsAdmitted, first_outside_entry, refusal_before};
 ghost use Rattle.rb_subscriber.specs.Accept.{brought, ConflictsSingly, HasSingleTables, OnConflict};
-ghost use Rattle.rb_subscriber.specs.Accept.{crash, fallen_unless_refused, part, LeavesSingly};
+ghost use Rattle.rb_subscriber.specs.Accept.{crash, part, LeavesSingly};
 ghost use Rattle.rb_subscriber.specs.Applier.{Applies, IsApplied};
 ghost use Rattle.rb_subscriber.specs.Endpoint.{Endpoint, new_endpoint};
 
@@ -20,7 +22,7 @@ use cs_apply::{ApplyError, Tables};
 use cs_model::{Changeset, CopyIn};
 use rb_desk::Delivery;
 use rb_sequence::Entry;
-use std::alloc::Global;
+use std::alloc::{AllocError, Global};
 use std::marker::Model;
 
 /// A subscriber's endpoint of a subscription: its cursor, its current link, and its tables. The
@@ -158,102 +160,81 @@ impl Endpoint {
         ensures conflicts { OnConflict result (ConflictsSingly self.old.tables
             (brought sequence.now delivery.now)) }
     {
+        if kept {
+            match self.accept(alloc, sequence, delivery) {
+                Ok(cursor) => {
+                    self.fallen = true;
+                    return Ok(cursor);
+                }
+                Err(error) => return Err(error),
+            }
+        }
         if let Some(why) = self.refuses(delivery) {
             return Err(why.into());
         }
         let entries = between(sequence, delivery.first() - 1, delivery.last());
-        if kept {
-            self.crash_after(alloc, &entries, delivery)
-        } else {
-            self.crash_before(alloc, &entries, delivery)
+        if let Some(why) = self.refuses_entries(&entries, delivery) {
+            return Err(why.into());
         }
-    }
-
-    // `crash` of an accept that the store has kept
-    fn crash_after<E: Brought>(
-        &mut self,
-        alloc: Global,
-        entries: &E,
-        delivery: &Delivery,
-    ) -> Result<u64, AcceptError>
-        ensures answers { AcceptAnswers result (fallen_unless_refused true self.old
-            (accept_brought self.old (E.entries entries.now) delivery.now)) self.old self.new }
-        ensures singly { LeavesSingly result self.old (E.entries entries.now) self.new }
-        ensures conflicts { OnConflict result
-            (ConflictsSingly self.old.tables (E.entries entries.now)) }
-    {
-        match self.accept_brought(
-            &|tables: &mut Tables, changeset: &Changeset| -> Result<(), ApplyError>
-                ensures { IsApplied tables.entry.now changeset.entry.now result tables.exit.now }
-            { tables.apply(alloc, changeset) },
-            alloc,
-            entries,
-            delivery,
-        ) {
-            Ok(cursor) => {
+        // only a copy accepts
+        let mut copy = self.copy(alloc)?;
+        match copy.accept(alloc, sequence, delivery) {
+            Ok(_) => {
                 self.fallen = true;
-                Ok(cursor)
+                Ok(self.cursor)
             }
             Err(error) => Err(error),
         }
     }
 
-    // `crash` of an accept that the store has not kept: only a copy of the tables is changed
-    fn crash_before<E: Brought>(
-        &mut self,
-        alloc: Global,
-        entries: &E,
-        delivery: &Delivery,
-    ) -> Result<u64, AcceptError>
-        ensures answers { AcceptAnswers result (fallen_unless_refused false self.old
-            (accept_brought self.old (E.entries entries.now) delivery.now)) self.old self.new }
-        ensures conflicts { OnConflict result
-            (ConflictsSingly self.old.tables (E.entries entries.now)) }
+    // a copy of it, with tables of its own
+    fn copy(&self, alloc: Global) -> Result<Endpoint, AllocError>
+        ensures { IfOk result (λ copy. copy ≡ self.now) }
     {
-        conflicts_are_single();
-        self.try_next(alloc, entries, delivery)
+        let tables = self.tables.copy_in(alloc)?;
+        Ok(Endpoint {
+            start: self.start,
+            cursor: self.cursor,
+            link: self.link,
+            closed: self.closed,
+            fallen: self.fallen,
+            tables,
+        })
     }
 
-    // `crash_before`, and what the law asks for where a change conflicts: the bodies are
-    // changesets, and each row has its columns.
+    /// Why a delivery that brings these entries is refused before the tables are asked, if it is:
+    /// as `refuses` says, or `Shape`. If it isn't, the call reaches the tables.
     #[tactic(auto, unfolding(crate::specs::Accept::accept_brought))]
-    fn try_next<E: Brought>(
-        &mut self,
-        alloc: Global,
+    pub(crate) fn refuses_entries<E: Brought>(
+        &self,
         entries: &E,
         delivery: &Delivery,
-    ) -> Result<u64, AcceptError>
-        ensures answers { AcceptAnswers result (fallen_unless_refused false self.old
-            (accept_brought self.old (E.entries entries.now) delivery.now)) self.old self.new }
-        ensures conflict { OnConflict result (AreChangesets (E.entries entries.now)
-            × HaveColumns self.old.tables) }
+    ) -> Option<AcceptRefusal>
+        ensures why { IfSome result (λ why.
+            accept_brought self.now (E.entries entries.now) delivery.now ≡ Err why) }
+        ensures early { IfSome result AsksNoTables }
+        ensures free { IfNone result (refusal_before self.now delivery.now ≡ None) }
+        ensures none { IfNone result
+            (first_outside_entry self.now.tables.schema (E.entries entries.now) ≡ None) }
+        ensures known { IfNone result (AreChangesets (E.entries entries.now)
+            × HaveColumns self.now.tables) }
+        ensures admitted { IfNone result
+            (AllByRecursion (IsAdmitted self.now.tables.schema) (E.entries entries.now)) }
+        ensures order { IfNone result (self.now.cursor < delivery.now.last) }
     {
         if let Some(why) = self.refuses(delivery) {
-            return Err(why.into());
+            return Some(why);
         }
         if let Some(entry) = outside(self.tables.schema(), entries) {
             let number = entry.number();
-            return Err(AcceptRefusal::Shape { number }.into());
+            return Some(AcceptRefusal::Shape { number });
         }
-        let mut copy = self.tables.copy_in(alloc)?;
-        match apply(
-            &|tables: &mut Tables, changeset: &Changeset| -> Result<(), ApplyError>
-                ensures { IsApplied tables.entry.now changeset.entry.now result tables.exit.now }
-            { tables.apply(alloc, changeset) },
-            alloc,
-            &mut copy,
-            entries,
-        ) {
-            Ok(()) => {}
-            Err(ApplyError::Conflict(why)) => return Err(AcceptRefusal::Conflict(why).into()),
-            Err(ApplyError::Memory) => return Err(AcceptError::Memory),
-        }
-        self.fallen = true;
-        Ok(self.cursor)
+        None
     }
 
     /// Accepts a delivery that brings these entries: `accept`, wherever the entries stand, and
     /// whoever applies them.
+    #[tactic(auto, unfolding(crate::specs::Accept::accept_brought))]
     pub(crate) fn accept_brought<
         E: Brought,
         F: Fn(&mut Tables, &Changeset) -> Result<(), ApplyError>,
@@ -273,33 +254,8 @@ impl Endpoint {
     {
         accepted_apply_singly();
         conflicts_are_single();
-        self.accept_next(applier, alloc, entries, delivery)
-    }
-
-    // `accept_brought`, and what the laws ask for where the tables are reached: the bodies are
-    // changesets, and each row has its columns.
-    #[tactic(auto, unfolding(crate::specs::Accept::accept_brought))]
-    fn accept_next<E: Brought, F: Fn(&mut Tables, &Changeset) -> Result<(), ApplyError>>(
-        &mut self,
-        applier: &F,
-        alloc: Global,
-        entries: &E,
-        delivery: &Delivery,
-    ) -> Result<u64, AcceptError>
-        requires { Applies F.Fn applier.now }
-        ensures answers { AcceptAnswers result
-            (accept_brought self.old (E.entries entries.now) delivery.now) self.old self.new }
-        ensures ok { OnOk result (AreChangesets (E.entries entries.now)
-            × HaveColumns self.old.tables) }
-        ensures conflict { OnConflict result (AreChangesets (E.entries entries.now)
-            × HaveColumns self.old.tables) }
-    {
-        if let Some(why) = self.refuses(delivery) {
+        if let Some(why) = self.refuses_entries(entries, delivery) {
             return Err(why.into());
-        }
-        if let Some(entry) = outside(self.tables.schema(), entries) {
-            let number = entry.number();
-            return Err(AcceptRefusal::Shape { number }.into());
         }
         match apply(applier, alloc, &mut self.tables, entries) {
             Ok(()) => {}

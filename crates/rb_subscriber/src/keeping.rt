@@ -7,7 +7,6 @@ ghost use Rattle.std.specs.{
 };
 ghost use Rattle.cs_apply.specs.{
   declared.conflict.ApplyError.TheVariants.{Memory},
-  Columns.{HaveColumns},
   Errors.{ReportsConflict},
   SameKey.{same_key},
   Single.{single},
@@ -20,7 +19,6 @@ ghost use Rattle.par_apply.specs.{
 };
 ghost use Rattle.rb_subscriber.specs.{
   Accept.{
-    AreChangesets,
     ConflictsSingly,
     HasSingleTables,
     IsAdmitted,
@@ -34,13 +32,12 @@ ghost use Rattle.rb_subscriber.specs.{
     KeepAnswers,
     IsNoRefusal,
     OnKeepConflict,
-    OnKeepTables,
     PlansGroup,
   },
 };
 
 use crate::applier::Workers;
-use crate::apply::{combined, only, outside};
+use crate::apply::{combined, only};
 use crate::brought::Brought;
 use crate::endpoint::Endpoint;
 use crate::laws::{accepted_apply_singly, conflicts_are_single};
@@ -70,6 +67,7 @@ impl Endpoint {
     /// Accepts a delivery that brings these entries, as `accept` does, and commits it to a store
     /// with this endpoint's rows and cursor: to the store first, then to its tables. If the store
     /// fails, the endpoint falls.
+    #[tactic(auto, unfolding(crate::specs::Accept::accept_brought))]
     pub(crate) fn accept_kept<E: Brought, R: Threads + Sync, G: Gate, S: DurableRows>(
         &mut self,
         workers: &Workers<R, G>,
@@ -98,40 +96,8 @@ impl Endpoint {
     {
         accepted_apply_singly();
         conflicts_are_single();
-        self.keep_next(workers, alloc, entries, store, delivery)
-    }
-
-    // `accept_kept`, and what the laws ask for where the tables are reached: the bodies are
-    // changesets, and each row has its columns.
-    #[tactic(auto, unfolding(crate::specs::Accept::accept_brought))]
-    fn keep_next<E: Brought, R: Threads + Sync, G: Gate, S: DurableRows>(
-        &mut self,
-        workers: &Workers<R, G>,
-        alloc: Global,
-        entries: &E,
-        store: &mut S,
-        delivery: &Delivery,
-    ) -> Result<u64, KeepError>
-        requires kept { self.old.fallen ≡ false
-            → S.keeps store.old self.old.tables.rows self.old.cursor }
-        ensures answers { KeepAnswers result
-            (accept_brought self.old (E.entries entries.now) delivery.now) self.old self.new }
-        ensures known { OnKeepTables result (AreChangesets (E.entries entries.now)
-            × HaveColumns self.old.tables) }
-        ensures fit { IfStoreFailed result (λ plan.
-            RowsFit self.old.tables (planned_changes plan)) }
-        ensures kept { OnOk result (S.keeps store.new self.new.tables.rows self.new.cursor) }
-        ensures leaves { IfStoreFailed result (λ plan.
-            S.leaves store.new self.old.tables.rows self.old.cursor
-            (overlaid self.old.tables.rows (planned_changes plan)) delivery.now.last) }
-        ensures unasked { IfStoreUnasked result (store.new ≡ store.old) }
-    {
-        if let Some(why) = self.refuses(delivery) {
+        if let Some(why) = self.refuses_entries(entries, delivery) {
             return Err(KeepError::Refused(why));
-        }
-        if let Some(entry) = outside(self.tables.schema(), entries) {
-            let number = entry.number();
-            return Err(KeepError::Refused(AcceptRefusal::Shape { number }));
         }
         let plan = match plan(workers, alloc, &self.tables, entries) {
             Ok(plan) => plan,
@@ -245,12 +211,6 @@ fn plan_by<R: Threads + Sync, G: Gate>(
     ensures refused { IfErr result (λ e. ReportsConflict e (single tables.now changeset.now)) }
 {
     plans_apply();
-    plan_changes(
-        workers.rt,
-        alloc,
-        tables,
-        changeset,
-        workers.n,
-        workers.gate,
-    )
+    let (rt, n, gate) = (workers.rt, workers.n, workers.gate);
+    plan_changes(rt, alloc, tables, changeset, n, gate)
 }

@@ -4,16 +4,4 @@
 #![tactic(auto)]
 
 #[cfg(test)]
-mod desks;
-#[cfg(test)]
-mod groups;
-#[cfg(test)]
-mod limits;
-#[cfg(test)]
-mod lists;
-#[cfg(test)]
-mod runs;
-#[cfg(test)]
-mod streams;
-#[cfg(test)]
-mod texts;
+mod tests;

@@ -12,96 +12,79 @@ const TABLES: &str = "CREATE TABLE rb_row(tab INTEGER NOT NULL, rowkey BLOB NOT 
      body BLOB NOT NULL, PRIMARY KEY (tab, rowkey)); \
      CREATE TABLE rb_mark(id INTEGER PRIMARY KEY, place INTEGER NOT NULL)";
 
-/// A database: what it has, and the SQL that writes it after the tables of a replica.
-struct Case {
-    name: &'static str,
-    sql: &'static str,
-}
-
+/// Databases with the cursor 5 and one row: what the row is, and its table, its key and its body.
 /// The row of 1 and 'a' has the key x'010000000000000001' and the body x'010000000000000001030161'.
-const CASES: [Case; 16] = [
-    Case {
-        name: "one row and a mark",
-        sql: "INSERT INTO rb_mark VALUES (1, 5); \
-              INSERT INTO rb_row VALUES (0, x'010000000000000001', x'010000000000000001030161')",
-    },
-    Case {
-        name: "a body that is no row",
-        sql: "INSERT INTO rb_mark VALUES (1, 5); \
-              INSERT INTO rb_row VALUES (0, x'010000000000000001', x'ff')",
-    },
-    Case {
-        name: "a body with a byte too few",
-        sql: "INSERT INTO rb_mark VALUES (1, 5); \
-              INSERT INTO rb_row VALUES (0, x'010000000000000001', x'0100000000000000010301')",
-    },
-    Case {
-        name: "a row with a column too few",
-        sql: "INSERT INTO rb_mark VALUES (1, 5); \
-              INSERT INTO rb_row VALUES (0, x'010000000000000001', x'010000000000000001')",
-    },
-    Case {
-        name: "another row's key",
-        sql: "INSERT INTO rb_mark VALUES (1, 5); \
-              INSERT INTO rb_row VALUES (0, x'010000000000000002', x'010000000000000001030161')",
-    },
-    Case {
-        name: "another schema's key",
-        sql: "INSERT INTO rb_mark VALUES (1, 5); \
-              INSERT INTO rb_row VALUES (0, x'030161', x'010000000000000001030161')",
-    },
-    Case {
-        name: "a row of a table that the schema doesn't have",
-        sql: "INSERT INTO rb_mark VALUES (1, 5); \
-              INSERT INTO rb_row VALUES (1, x'010000000000000001', x'010000000000000001030161')",
-    },
-    Case {
-        name: "a row of table -1",
-        sql: "INSERT INTO rb_mark VALUES (1, 5); \
-              INSERT INTO rb_row VALUES (-1, x'010000000000000001', x'010000000000000001030161')",
-    },
-    Case {
-        name: "a body that is a text",
-        sql: "INSERT INTO rb_mark VALUES (1, 5); \
-              INSERT INTO rb_row VALUES (0, x'010000000000000001', 'a')",
-    },
-    Case {
-        name: "no mark",
-        sql: "INSERT INTO rb_row VALUES (0, x'010000000000000001', x'010000000000000001030161')",
-    },
-    Case {
-        name: "two marks",
-        sql: "INSERT INTO rb_mark VALUES (1, 5), (2, 5)",
-    },
-    Case {
-        name: "a mark with the id 2",
-        sql: "INSERT INTO rb_mark VALUES (2, 5)",
-    },
-    Case {
-        name: "the cursor -1",
-        sql: "INSERT INTO rb_mark VALUES (1, -1)",
-    },
-    Case {
-        name: "a third table",
-        sql: "INSERT INTO rb_mark VALUES (1, 5); CREATE TABLE other (a)",
-    },
-    Case {
-        name: "a table too few",
-        sql: "DROP TABLE rb_mark",
-    },
-    Case {
-        name: "a second index",
-        sql: "INSERT INTO rb_mark VALUES (1, 5); CREATE INDEX places ON rb_mark (place)",
-    },
+const ROWS: [(&str, &str); 9] = [
+    (
+        "one row and a mark",
+        "0, x'010000000000000001', x'010000000000000001030161'",
+    ),
+    ("a body that is no row", "0, x'010000000000000001', x'ff'"),
+    (
+        "a body with a byte too few",
+        "0, x'010000000000000001', x'0100000000000000010301'",
+    ),
+    (
+        "a row with a column too few",
+        "0, x'010000000000000001', x'010000000000000001'",
+    ),
+    (
+        "another row's key",
+        "0, x'010000000000000002', x'010000000000000001030161'",
+    ),
+    (
+        "another schema's key",
+        "0, x'030161', x'010000000000000001030161'",
+    ),
+    (
+        "a row of a table that the schema doesn't have",
+        "1, x'010000000000000001', x'010000000000000001030161'",
+    ),
+    (
+        "a row of table -1",
+        "-1, x'010000000000000001', x'010000000000000001030161'",
+    ),
+    ("a body that is a text", "0, x'010000000000000001', 'a'"),
+];
+
+/// Other databases: what is wrong with them, and the SQL that writes them.
+const OTHERS: [(&str, &str); 7] = [
+    (
+        "no mark",
+        "INSERT INTO rb_row VALUES (0, x'010000000000000001', x'010000000000000001030161')",
+    ),
+    ("two marks", "INSERT INTO rb_mark VALUES (1, 5), (2, 5)"),
+    ("a mark with the id 2", "INSERT INTO rb_mark VALUES (2, 5)"),
+    ("the cursor -1", "INSERT INTO rb_mark VALUES (1, -1)"),
+    (
+        "a third table",
+        "INSERT INTO rb_mark VALUES (1, 5); CREATE TABLE other (a)",
+    ),
+    ("a table too few", "DROP TABLE rb_mark"),
+    (
+        "a second index",
+        "INSERT INTO rb_mark VALUES (1, 5); CREATE INDEX places ON rb_mark (place)",
+    ),
 ];
 
 /// Prints a line for each database.
 pub fn tell_all(rt: &impl Print, alloc: Global) -> io::Result<()> {
-    for case in &CASES {
-        let answer = Answer::of(alloc, written(alloc, case.sql)?)?;
-        println!(rt; "{}: {answer}", case.name)?;
+    for (name, row) in &ROWS {
+        let sql = format!(in alloc;
+            "INSERT INTO rb_mark VALUES (1, 5); INSERT INTO rb_row VALUES ({row})"
+        )?;
+        tell(rt, alloc, name, &sql)?;
+    }
+    for (name, sql) in &OTHERS {
+        tell(rt, alloc, name, sql)?;
     }
     Ok(())
+}
+
+// prints what a database answers that this SQL writes after the tables of a replica
+fn tell(rt: &impl Print, alloc: Global, name: &str, sql: &str) -> io::Result<()> {
+    let answer = Answer::of(alloc, written(alloc, sql)?)?;
+    println!(rt; "{name}: {answer}")
 }
 
 // a database in memory with the tables of a replica, after this SQL
@@ -127,7 +110,7 @@ pub fn tell_created(rt: &impl Print, alloc: Global, commits: &Commits) -> io::Re
     let second = created_over(alloc, TABLES)?;
     println!(rt; "a replica's tables: {second}")?;
     let found = found_in_memory(alloc, commits)?;
-    println!(rt; "a replica in memory after two commits: {found}")
+    println!(rt; "a replica in memory after two commits: {}", found.text())
 }
 
 // what creating a replica answers after this SQL

@@ -3,7 +3,7 @@
 use sqlite::{Connection, FileStore, Files, Options};
 use sqlite_disk::{Crash, Disk, Fuse, Memory};
 use std::alloc::Global;
-use std::{fmt, io};
+use std::io;
 
 /// A file in memory that stops after so many operations: each one after fails and changes nothing.
 pub type TestDisk = Fuse<Memory>;
@@ -15,13 +15,13 @@ pub enum StoppedFile {
     Log,
 }
 
-impl fmt::Display for StoppedFile {
-    fn fmt<W: fmt::Write>(&self, f: &mut fmt::Formatter<W>) -> fmt::Result {
-        let name = match self {
+impl StoppedFile {
+    /// What it is called.
+    pub fn text(self) -> &'static str {
+        match self {
             StoppedFile::Database => "the database file",
             StoppedFile::Log => "the log",
-        };
-        write!(f, "{name}")
+        }
     }
 }
 
@@ -46,24 +46,22 @@ impl Loss {
         Loss::Nothing,
     ];
 
+    /// What is lost.
+    pub fn text(self) -> &'static str {
+        match self {
+            Loss::Unsynced => "what was not synced is lost",
+            Loss::UnsyncedDatabase => "what was not synced of the database file is lost",
+            Loss::UnsyncedLog => "what was not synced of the log is lost",
+            Loss::Nothing => "all is kept",
+        }
+    }
+
     fn is_of_database(self) -> bool {
         matches!(self, Loss::Unsynced | Loss::UnsyncedDatabase)
     }
 
     fn is_of_log(self) -> bool {
         matches!(self, Loss::Unsynced | Loss::UnsyncedLog)
-    }
-}
-
-impl fmt::Display for Loss {
-    fn fmt<W: fmt::Write>(&self, f: &mut fmt::Formatter<W>) -> fmt::Result {
-        let text = match self {
-            Loss::Unsynced => "what was not synced is lost",
-            Loss::UnsyncedDatabase => "what was not synced of the database file is lost",
-            Loss::UnsyncedLog => "what was not synced of the log is lost",
-            Loss::Nothing => "all is kept",
-        };
-        write!(f, "{text}")
     }
 }
 

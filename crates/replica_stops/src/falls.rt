@@ -7,7 +7,7 @@ ghost use Rattle.replica_store.specs.Durable.{KeepsRows};
 ghost use Rattle.sqlite.specs.Held.{state};
 
 use crate::disks::{Loss, TestDisk, Wreck, connected, stopping};
-use crate::kept::{Kept, accept_next, created, gone_on, reopened, resumed, subscribed};
+use crate::kept::{Kept, accept_next, gone_on, load, subscribed};
 use crate::reading::Found;
 use crate::rows::{Commits, FIRST_CURSOR, SECOND_CURSOR, one_table};
 use crate::stand::{Stand, limits};
@@ -113,11 +113,10 @@ impl Falls {
 
 impl fmt::Display for Falls {
     fn fmt<W: fmt::Write>(&self, f: &mut fmt::Formatter<W>) -> fmt::Result {
-        let Trial { log, file, .. } = self.trial;
         write!(
             f,
-            "an accept that {log}: {file} stops {} times; ",
-            self.stops
+            "an accept that {} stops {} times; ",
+            self.trial, self.stops
         )?;
         write!(
             f,
@@ -159,7 +158,7 @@ fn tried_at<L: Hall, R: Wait + Threads + Sync>(
     requires queue { opened.queue ≡ L.queue }
     requires ledger { (opened.ledger ≡ L.name) × (L.parts ≡ 1024) × (L.all ≡ 1024) }
 {
-    let mut stand = Stand::<L>::start(alloc, opened)?;
+    let mut stand = Stand::of(alloc, Broker::<L>::start(opened))?;
     tried_over(rt, alloc, &mut stand, trial, operations, loss, commits)
 }
 
@@ -208,10 +207,13 @@ fn accept_both<L: Hall, S: Alter + Drop, R: Wait + Threads + Sync>(
     conn: Connection<S>,
     commits: &Commits,
 ) -> io::Result<Left<L, S>> {
-    let Ok(loaded) = created(alloc, conn, one_table(alloc)?) else {
+    let Ok(replica) = Replica::create(conn, one_table(alloc)?) else {
         return Ok(Left::Early);
     };
-    let Some(kept) = subscribed(rt, alloc, &stand.broker, loaded) else {
+    let Ok(loaded) = load(alloc, replica) else {
+        return Ok(Left::Early);
+    };
+    let Some(kept) = subscribed(rt, alloc, &stand.broker, None, loaded) else {
         return Err(io::Error::other("there is no subscription"));
     };
     let Kept {
@@ -265,11 +267,14 @@ fn resume<L: Hall, S: Alter + Drop, R: Wait + Threads + Sync>(
     conn: Connection<S>,
     commits: &Commits,
 ) -> io::Result<Fate> {
-    let Ok(loaded) = reopened(alloc, conn, one_table(alloc)?) else {
+    let Ok(replica) = Replica::open(conn, one_table(alloc)?) else {
+        return Ok(Fate::Wrong);
+    };
+    let Ok(loaded) = load(alloc, replica) else {
         return Ok(Fate::Wrong);
     };
     let found = Found::of(alloc, &loaded.tables, loaded.cursor, commits)?;
-    let Some(kept) = resumed(rt, alloc, broker, lost, loaded) else {
+    let Some(kept) = subscribed(rt, alloc, broker, Some(lost), loaded) else {
         return Ok(Fate::Wrong);
     };
     let Some(conn) = gone_on(rt, alloc, broker, kept)? else {

@@ -10,16 +10,15 @@ ghost use Rattle.sqlite.specs.State.{HasCleanDisk};
 
 use crate::rows::SECOND_CURSOR;
 use cs_apply::Tables;
-use cs_model::Schema;
 use par_apply::Open;
 use rb_broker::{Broker, Hall, RefusedResume, ResumeError, TakeError};
-use rb_desk::{Delivery, DeskError, DeskRefusal};
+use rb_desk::{DeskError, DeskRefusal};
 use rb_subscriber::{AcceptRefusal, Lost, Subscription, SubscriptionError, Workers};
 use replica_store::{Replica, ReplicaError};
 use sqlite::{Alter, Connection};
 use std::alloc::Global;
 use std::io;
-use std::sync::{Arc, Wait};
+use std::sync::Wait;
 use std::thread::Threads;
 
 /// A replica, and the rows and the cursor that it has.
@@ -37,37 +36,28 @@ pub struct Kept<L: Hall, S: Alter> {
     pub replica: Replica<S>,
 }
 
-/// Makes a replica in an empty database.
-pub fn created<S: Alter + Drop>(
-    alloc: Global,
-    conn: Connection<S>,
-    schema: Arc<Schema>,
-) -> Result<Loaded<S>, ReplicaError>
-    ensures { IfOk result (λ l.
-        KeepsRows (state S.Store l.replica.conn) l.tables.rows l.cursor) }
-{
-    match Replica::create(conn, schema) {
-        Ok(replica) => load(alloc, replica),
-        Err(error) => Err(error),
+impl<L: Hall, S: Alter + Drop> Kept<L, S> {
+    // a subscription with the rows of a replica, if it has its cursor too
+    fn of(subscription: Subscription<L>, replica: Replica<S>, cursor: u64) -> Option<Kept<L, S>>
+        requires { KeepsRows (state S.Store replica.conn) subscription.tables.rows cursor }
+        ensures { IfSome result (λ k. KeepsRows (state S.Store k.replica.conn)
+            k.subscription.tables.rows (cursor_of k.subscription)) }
+    {
+        if subscription.cursor() != cursor {
+            return None;
+        }
+        Some(Kept {
+            subscription,
+            replica,
+        })
     }
 }
 
-/// Opens a replica again.
-pub fn reopened<S: Alter + Drop>(
+/// The rows and the cursor of a replica that was created or opened.
+pub fn load<S: Alter + Drop>(
     alloc: Global,
-    conn: Connection<S>,
-    schema: Arc<Schema>,
+    mut replica: Replica<S>,
 ) -> Result<Loaded<S>, ReplicaError>
-    ensures { IfOk result (λ l.
-        KeepsRows (state S.Store l.replica.conn) l.tables.rows l.cursor) }
-{
-    match Replica::open(conn, schema) {
-        Ok(replica) => load(alloc, replica),
-        Err(error) => Err(error),
-    }
-}
-
-fn load<S: Alter + Drop>(alloc: Global, mut replica: Replica<S>) -> Result<Loaded<S>, ReplicaError>
     requires { HasCleanDisk (state S.Store replica.conn)
         → HoldsReplica (state S.Store replica.conn) }
     ensures { IfOk result (λ l.
@@ -81,11 +71,13 @@ fn load<S: Alter + Drop>(alloc: Global, mut replica: Replica<S>) -> Result<Loade
     })
 }
 
-/// A new subscription with the rows and the cursor of a replica.
+/// A subscription with the rows and the cursor of a replica: a new one, or the one that was lost,
+/// resumed after the cursor of the other state was refused.
 pub fn subscribed<L: Hall, S: Alter + Drop, R: Wait>(
     rt: &R,
     alloc: Global,
     broker: &Broker<L>,
+    lost: Option<Lost<L>>,
     loaded: Loaded<S>,
 ) -> Option<Kept<L, S>>
     requires { KeepsRows (state S.Store loaded.replica.conn) loaded.tables.rows loaded.cursor }
@@ -97,16 +89,32 @@ pub fn subscribed<L: Hall, S: Alter + Drop, R: Wait>(
         tables,
         cursor,
     } = loaded;
-    let Ok(subscription) = broker.subscribe(rt, alloc, tables, cursor) else {
-        return None;
+    let Some(lost) = lost else {
+        let Ok(subscription) = broker.subscribe(rt, alloc, tables, cursor) else {
+            return None;
+        };
+        return Kept::of(subscription, replica, cursor);
     };
-    if subscription.cursor() != cursor {
-        return None;
+    let other = if cursor == lost.before() {
+        lost.after()
+    } else {
+        lost.before()
+    };
+    match broker.resume(rt, alloc, lost, tables, other) {
+        Err(
+            RefusedResume {
+                why: ResumeError::OtherState,
+                lost,
+                tables,
+            },
+        ) => {
+            let Ok(subscription) = broker.resume(rt, alloc, lost, tables, cursor) else {
+                return None;
+            };
+            Kept::of(subscription, replica, cursor)
+        }
+        _ => None,
     }
-    Some(Kept {
-        subscription,
-        replica,
-    })
 }
 
 /// Accepts the next delivery. Returns whether it is accepted: if not, the subscription has fallen.
@@ -126,29 +134,12 @@ pub fn accept_next<L: Hall, S: Alter + Drop, R: Wait + Threads + Sync>(
     let Ok(delivery) = broker.take(rt, alloc, subscription, 0) else {
         return Err(io::Error::other("nothing is delivered"));
     };
-    accept(rt, alloc, broker, subscription, replica, &delivery)
-}
-
-fn accept<L: Hall, S: Alter + Drop, R: Wait + Threads + Sync>(
-    rt: &R,
-    alloc: Global,
-    broker: &Broker<L>,
-    subscription: &mut Subscription<L>,
-    replica: &mut Replica<S>,
-    delivery: &Delivery,
-) -> io::Result<bool>
-    requires { KeepsRows (state S.Store replica.old.conn) subscription.old.tables.rows
-        (cursor_of subscription.old) }
-    ensures { IfOk result (λ accepted. IsTrue accepted
-        → KeepsRows (state S.Store replica.new.conn) subscription.new.tables.rows
-        (cursor_of subscription.new)) }
-{
     let workers = Workers {
         rt,
         n: 1,
         gate: &Open,
     };
-    match subscription.accept_durable(&workers, alloc, broker.sequence(), replica, delivery) {
+    match subscription.accept_durable(&workers, alloc, broker.sequence(), replica, &delivery) {
         Ok(_) => Ok(true),
         Err(SubscriptionError::Refused(AcceptRefusal::Store)) => Ok(false),
         Err(_) => Err(io::Error::other("a delivery is refused")),
@@ -191,63 +182,4 @@ fn has_nothing_left<L: Hall, R: Wait>(
         broker.take(rt, alloc, subscription, 0),
         Err(TakeError::Desk(DeskError::Refused(DeskRefusal::Empty { .. })))
     ) && subscription.cursor() == SECOND_CURSOR
-}
-
-/// Resumes a subscription with the rows and the cursor of its replica, after the cursor of the
-/// other state with these rows was refused.
-pub fn resumed<L: Hall, S: Alter + Drop, R: Wait>(
-    rt: &R,
-    alloc: Global,
-    broker: &Broker<L>,
-    lost: Lost<L>,
-    loaded: Loaded<S>,
-) -> Option<Kept<L, S>>
-    requires { KeepsRows (state S.Store loaded.replica.conn) loaded.tables.rows loaded.cursor }
-    ensures { IfSome result (λ k. KeepsRows (state S.Store k.replica.conn)
-        k.subscription.tables.rows (cursor_of k.subscription)) }
-{
-    let Loaded {
-        replica,
-        tables,
-        cursor,
-    } = loaded;
-    let (lost, tables) = refused(rt, alloc, broker, lost, tables, cursor)?;
-    let Ok(subscription) = broker.resume(rt, alloc, lost, tables, cursor) else {
-        return None;
-    };
-    if subscription.cursor() != cursor {
-        return None;
-    }
-    Some(Kept {
-        subscription,
-        replica,
-    })
-}
-
-// tries the cursor of the other state, and hands back what was refused
-fn refused<L: Hall, R: Wait>(
-    rt: &R,
-    alloc: Global,
-    broker: &Broker<L>,
-    lost: Lost<L>,
-    tables: Tables,
-    cursor: u64,
-) -> Option<(Lost<L>, Tables)>
-    ensures { IfSome result (λ back. back.1 ≡ tables) }
-{
-    let other = if cursor == lost.before() {
-        lost.after()
-    } else {
-        lost.before()
-    };
-    match broker.resume(rt, alloc, lost, tables, other) {
-        Err(
-            RefusedResume {
-                why: ResumeError::OtherState,
-                lost,
-                tables,
-            },
-        ) => Some((lost, tables)),
-        _ => None,
-    }
 }

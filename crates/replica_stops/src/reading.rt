@@ -41,16 +41,14 @@ impl Found {
         }
         Ok(Found::Neither)
     }
-}
 
-impl fmt::Display for Found {
-    fn fmt<W: fmt::Write>(&self, f: &mut fmt::Formatter<W>) -> fmt::Result {
-        let text = match self {
+    /// Which state it is.
+    pub fn text(self) -> &'static str {
+        match self {
             Found::Before => "the state before",
             Found::After => "the state after",
             Found::Neither => "another state",
-        };
-        write!(f, "{text}")
+        }
     }
 }
 

@@ -1,8 +1,8 @@
 //! A broker on one thread, and what is sent through it.
 
-ghost use Rattle.std.specs.Prelude.{◌≡◌, IfOk};
+ghost use Rattle.std.specs.Prelude.{◌≡◌, [], IfOk};
 
-use rb_broker::{Broker, Hall, Opened, Publisher, StagedSet, Started};
+use rb_broker::{Broker, Hall, Publisher, StagedSet, Started};
 use rb_desk::Config;
 use rb_sequencer::{Sequencer, Turn};
 use std::alloc::Global;
@@ -26,18 +26,16 @@ pub fn limits() -> io::Result<Config> {
 }
 
 impl<L: Hall> Stand<L> {
-    /// The broker that was opened, started.
-    pub fn start(alloc: Global, opened: Opened) -> io::Result<Stand<L>>
-        requires cells { opened.cells ≡ L.cells }
-        requires queue { opened.queue ≡ L.queue }
-        requires ledger { (opened.ledger ≡ L.name) × (L.parts ≡ 1024) × (L.all ≡ 1024) }
+    /// A broker that was started, with its sequencer and one publisher.
+    pub fn of(alloc: Global, started: Started<L>) -> io::Result<Stand<L>>
+        requires { started.sequencer ≡ record { queue = L.queue; pulled = []; ended = [] } }
     {
         let Started {
             broker,
             sequencer,
             mut publishers,
             ..
-        } = Broker::<L>::start(opened);
+        } = started;
         let Ok(publisher) = publishers.make(alloc, &broker) else {
             return Err(io::Error::other("no publisher is made"));
         };

@@ -22,20 +22,19 @@ pub enum LogUse {
     Keeps,
 }
 
-impl fmt::Display for LogUse {
-    fn fmt<W: fmt::Write>(&self, f: &mut fmt::Formatter<W>) -> fmt::Result {
-        let text = match self {
+impl LogUse {
+    fn text(self) -> &'static str {
+        match self {
             LogUse::Copies => "copies the log into the database file first",
             LogUse::Keeps => "appends to the log",
-        };
-        write!(f, "{text}")
+        }
     }
 }
 
 /// A commit in which a file stops.
 #[derive(Clone, Copy)]
 pub struct Trial {
-    pub log: LogUse,
+    log: LogUse,
     pub file: StoppedFile,
     // how many pages stay in memory: of few, a larger commit writes some before its end, and reads
     // them again
@@ -106,6 +105,12 @@ impl Trial {
     }
 }
 
+impl fmt::Display for Trial {
+    fn fmt<W: fmt::Write>(&self, f: &mut fmt::Formatter<W>) -> fmt::Result {
+        write!(f, "{}: {}", self.log.text(), self.file.text())
+    }
+}
+
 /// What a commit leaves.
 #[derive(Drop)]
 struct Left {
@@ -166,8 +171,7 @@ impl Stops {
 
 impl fmt::Display for Stops {
     fn fmt<W: fmt::Write>(&self, f: &mut fmt::Formatter<W>) -> fmt::Result {
-        let Trial { log, file, .. } = self.trial;
-        write!(f, "a commit that {log}: {file} stops {} times", self.count)
+        write!(f, "a commit that {} stops {} times", self.trial, self.count)
     }
 }
 
@@ -211,7 +215,9 @@ impl fmt::Display for Counts {
         write!(
             f,
             "{}: {} before, {} after, ",
-            self.loss, self.before, self.after
+            self.loss.text(),
+            self.before,
+            self.after
         )?;
         let end = if self.lasts { "lasts" } else { "is lost" };
         write!(f, "{} wrong; a whole commit {end}", self.wrong)

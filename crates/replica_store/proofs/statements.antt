@@ -2,6 +2,7 @@
 pub mod Parts
 pub mod Texts
 pub mod Did
+pub mod Inserts
 pub mod DeletedRows
 pub mod Deletes
 pub mod Puts

@@ -1,7 +1,7 @@
 -- Places that staging makes and takes away.
 use Rattle.std.proofs.Common.{◌≡◌, ◌∙◌, ℕ, zero, suc, Bool, true, false, cond, not, ◌||◌, ◌&&◌}
 use Rattle.std.proofs.Common.{List, [], ◌∷◌, ◌++◌, Option, Some, None}
-use Rattle.std.proofs.Common.{is_some, slice_get, take, refl, ap, sym, subst}
+use Rattle.std.proofs.Common.{is_some, slice_get, take, refl, ap, sym, subst, if◌then◌else◌}
 use Rattle.std.proofs.lemmas.Bool.{false≢true}
 use Rattle.std.proofs.lemmas.List.{append-nil}
 use Rattle.std.specs.FinMap as map
@@ -158,6 +158,23 @@ pub held_stays : (old new : HeldState) (own : RowKey) → new ≡ held_also old 
     → KeyHasPlace new q
 held_stays old new own is q there =
     subst (λ (t : HeldState). KeyHasPlace t q) (sym is) (hold_keeps_places old own q there)
+
+held_keeps_state : (old : HeldState) (key : RowKey) → (held_also old key).state ≡ old.state
+held_keeps_state old key = by (map.contains_key old.state.rows key)
+  where
+    by : (b : Bool) → (if b then old else record old { held = set.insert old.held key }).state ≡ old.state
+    by true = refl
+    by false = refl
+
+-- a change whose key was given a place can be made
+pub can_hold : (old new : HeldState) (own : RowKey) (change : RowKey × Option (List Value)) → new ≡ held_also old own
+    → own ≡ change.0 → FitsAtKey old.state change → CanHoldRow new change
+can_hold old new own (key, None) is same fits = tt
+can_hold old new own (key, Some row) is same fits = (
+  held_placed old new own key is same,
+  subst (λ (s : TableState). FitsAtKey s (key, Some row))
+      (sym (ap (λ (t : HeldState). t.state) is ∙ held_keeps_state old own)) fits,
+)
 
 was_true : (b : Bool) → not b ≡ true → b ≡ false
 was_true true h = absurd (false≢true h)

@@ -8,7 +8,7 @@ use Rattle.rb_desk.proofs.pictures.PictureLaws.{get_set, get_set_other}
 use Rattle.rb_sequence.specs.Entry.{Entry}
 use Rattle.rb_core.specs.World.{Subscriber, World}
 use Rattle.rb_core.specs.Moves.{Leads, StaysClosed, with_subscriber}
-use Rattle.rb_core.proofs.headline.Moving.{get_push, MovingKeeps, crash_leaves, kept_through}
+use Rattle.rb_core.proofs.headline.Moving.{get_push, apart_from_sending, MovingKeeps, crash_leaves, kept_through}
 
 -- ---- the sequence
 
@@ -21,10 +21,7 @@ not_open last o some none = absurd (cc (sym some ∙ none))
 
 closed_kept : (last : ℕ) (sequence : List Entry) → MovingKeeps (IsClosed last sequence)
 closed_kept last sequence = record {
-  adds_publisher = λ old new move h. subst (IsClosed last sequence) (sym move) h;
-  streams = λ old new move h. subst (IsClosed last sequence) (sym move.kept) h;
-  sends = λ old new move h. subst (IsClosed last sequence) (sym move.kept) h;
-  pulls = λ old new move h. subst (IsClosed last sequence) (sym move.kept) h;
+  sending = apart_from_sending (IsClosed last sequence) (λ old senders intake hand h. h);
   places = λ old new move h. absurd (not_open last old.closing h.0 move.not_closed);
   closes = λ old new move h. absurd (not_open last old.closing h.0 move.not_closed);
   subscribes = λ old new move h. subst (IsClosed last sequence) (sym move.kept) h;
@@ -78,10 +75,7 @@ becomes s accepted rows old at q r found stays h =
 
 left_kept : (s : ℕ) (accepted : List Entry) (rows : tables.TableState) → MovingKeeps (Left s accepted rows)
 left_kept s accepted rows = record {
-  adds_publisher = λ old new move h. subst (Left s accepted rows) (sym move) h;
-  streams = λ old new move h. subst (Left s accepted rows) (sym move.kept) h;
-  sends = λ old new move h. subst (Left s accepted rows) (sym move.kept) h;
-  pulls = λ old new move h. subst (Left s accepted rows) (sym move.kept) h;
+  sending = apart_from_sending (Left s accepted rows) (λ old senders intake hand h. h);
   places = λ old new move h. subst (Left s accepted rows) (sym move.kept) h;
   closes = λ old new move h. subst (Left s accepted rows) (sym move.kept) h;
   subscribes = λ old new move h. subst (Left s accepted rows) (sym move.kept)

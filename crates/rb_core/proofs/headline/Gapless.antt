@@ -12,7 +12,8 @@ use Rattle.rb_subscriber.specs.Accept.{part}
 use Rattle.rb_subscriber.proofs.runs.RunLaws.{parts, part_stays}
 use Rattle.rb_core.specs.World.{Subscriber, World, world_begun, cursor, subscriber_begun}
 use Rattle.rb_core.specs.Moves.{Acceptance, after_acceptance, with_subscriber, Leads}
-use Rattle.rb_core.proofs.headline.Moving.{all_set, all_get, all_moved_in, all_map, MovingKeeps, crash_leaves, kept_through}
+use Rattle.rb_core.proofs.headline.Moving.{all_set, all_get, all_moved_in, all_map, apart_from_sending, MovingKeeps}
+use Rattle.rb_core.proofs.headline.Moving.{crash_leaves, kept_through}
 
 -- a delivery's numbers are placed
 abbrev GaplessIsPlaced : List Entry → Delivery → Type 0
@@ -106,10 +107,7 @@ gapless_becomes old s q r runs found same =
 
 runs_kept : MovingKeeps AreRuns
 runs_kept = record {
-  adds_publisher = λ old new move runs. subst AreRuns (sym move) runs;
-  streams = λ old new move runs. subst AreRuns (sym move.kept) runs;
-  sends = λ old new move runs. subst AreRuns (sym move.kept) runs;
-  pulls = λ old new move runs. subst AreRuns (sym move.kept) runs;
+  sending = apart_from_sending AreRuns (λ old senders intake hand runs. runs);
   places = λ old new move runs.
       let entry : Entry = record { number = suc (length old.sequence); item = move.item } in
       subst AreRuns (sym move.kept)

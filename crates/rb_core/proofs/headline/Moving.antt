@@ -1,8 +1,10 @@
 -- What holds of a world, move by move.
-use Rattle.std.proofs.Common.{◌≡◌, ℕ, zero, suc, inl, inr, true, List, [], ◌∷◌, ◌++◌, Some, sym, subst}
+use Rattle.std.proofs.Common.{◌≡◌, ℕ, zero, suc, inl, inr, ⊎_elim, true, List, [], ◌∷◌, ◌++◌, Option, Some, sym}
+use Rattle.std.proofs.Common.{subst}
 use Rattle.std.specs.Prelude.{slice_get, slice_set}
 use Rattle.std.specs.List.{AllByRecursion}
-use Rattle.rb_core.specs.World.{World}
+use Rattle.rb_sequence.specs.declared.item.Item.{Item}
+use Rattle.rb_core.specs.World.{Sender, World}
 use Rattle.rb_core.specs.Moves.{IsIn, AddsPublisher, Streams, Sends, Pulls, Places, Closes, Subscribes, Delivers}
 use Rattle.rb_core.specs.Moves.{Accepts, Reconnects, Unsubscribes, Withdraws, Crashes, Resumes, Moves, Leads}
 use Rattle.rb_core.specs.Moves.{after_acceptance, with_subscriber}
@@ -44,12 +46,27 @@ get_push (z ∷ xs) y x (suc i) e = get_push xs y x i e
 
 -- ---- moves
 
--- what each kind of move keeps
-pub record MovingKeeps (P : World → Type 0) : Type 0 where
+-- what each move of the items that are not placed yet keeps
+pub record SendingKeeps (P : World → Type 0) : Type 0 where
   pub adds_publisher : (old new : World) → AddsPublisher old new → P old → P new
   pub streams : (old new : World) → Streams old new → P old → P new
   pub sends : (old new : World) → Sends old new → P old → P new
   pub pulls : (old new : World) → Pulls old new → P old → P new
+
+-- they keep what doesn't depend on publishers, intake and hand
+pub apart_from_sending : (P : World → Type 0)
+    → ((old : World) (senders : List Sender) (intake : List Item) (hand : Option Item) → P old
+    → P (record old { senders = senders; intake = intake; hand = hand })) → SendingKeeps P
+apart_from_sending P stays = record {
+  adds_publisher = λ old new move h. subst P (sym move) (stays old _ old.intake old.hand h);
+  streams = λ old new move h. subst P (sym move.kept) (stays old _ old.intake old.hand h);
+  sends = λ old new move h. subst P (sym move.kept) (stays old _ _ old.hand h);
+  pulls = λ old new move h. subst P (sym move.kept) (stays old old.senders move.rest (Some move.item) h);
+}
+
+-- what each kind of move keeps
+pub record MovingKeeps (P : World → Type 0) : Type 0 where
+  pub sending : SendingKeeps P
   pub places : (old new : World) → Places old new → P old → P new
   pub closes : (old new : World) → Closes old new → P old → P new
   pub subscribes : (old new : World) → Subscribes old new → P old → P new
@@ -62,49 +79,22 @@ pub record MovingKeeps (P : World → Type 0) : Type 0 where
   pub resumes : (old new : World) → Resumes old new → P old → P new
 
 kept_by : (P : World → Type 0) → MovingKeeps P → (old new : World) → Moves old new → P old → P new
-kept_by P keeps old new move h = elim move as (λ w. P new) [
-  | inl same ↦ subst P (sym same) h
-  | inr m ↦ elim m as (λ w. P new) [
-    | inl x ↦ keeps.adds_publisher old new x h
-    | inr m ↦ elim m as (λ w. P new) [
-      | inl x ↦ keeps.streams old new x h
-      | inr m ↦ elim m as (λ w. P new) [
-        | inl x ↦ keeps.sends old new x h
-        | inr m ↦ elim m as (λ w. P new) [
-          | inl x ↦ keeps.pulls old new x h
-          | inr m ↦ elim m as (λ w. P new) [
-            | inl x ↦ keeps.places old new x h
-            | inr m ↦ elim m as (λ w. P new) [
-              | inl x ↦ keeps.closes old new x h
-              | inr m ↦ elim m as (λ w. P new) [
-                | inl x ↦ keeps.subscribes old new x h
-                | inr m ↦ elim m as (λ w. P new) [
-                  | inl x ↦ keeps.delivers old new x h
-                  | inr m ↦ elim m as (λ w. P new) [
-                    | inl x ↦ keeps.accepts old new x h
-                    | inr m ↦ elim m as (λ w. P new) [
-                      | inl x ↦ keeps.reconnects old new x h
-                      | inr m ↦ elim m as (λ w. P new) [
-                        | inl x ↦ keeps.unsubscribes old new x h
-                        | inr m ↦ elim m as (λ w. P new) [
-                          | inl x ↦ keeps.withdraws old new x h
-                          | inr m ↦ elim m as (λ w. P new) [
-                            | inl x ↦ keeps.crashes old new x h
-                            | inr x ↦ keeps.resumes old new x h
-                          ]
-                        ]
-                      ]
-                    ]
-                  ]
-                ]
-              ]
-            ]
-          ]
-        ]
-      ]
-    ]
-  ]
-]
+kept_by P keeps old new move h =
+    ⊎_elim (λ same. subst P (sym same) h)
+    (⊎_elim (λ x. keeps.sending.adds_publisher old new x h)
+    (⊎_elim (λ x. keeps.sending.streams old new x h)
+    (⊎_elim (λ x. keeps.sending.sends old new x h)
+    (⊎_elim (λ x. keeps.sending.pulls old new x h)
+    (⊎_elim (λ x. keeps.places old new x h)
+    (⊎_elim (λ x. keeps.closes old new x h)
+    (⊎_elim (λ x. keeps.subscribes old new x h)
+    (⊎_elim (λ x. keeps.delivers old new x h)
+    (⊎_elim (λ x. keeps.accepts old new x h)
+    (⊎_elim (λ x. keeps.reconnects old new x h)
+    (⊎_elim (λ x. keeps.unsubscribes old new x h)
+    (⊎_elim (λ x. keeps.withdraws old new x h)
+    (⊎_elim (λ x. keeps.crashes old new x h)
+    (λ x. keeps.resumes old new x h)))))))))))))) move
 
 -- what a fall leaves, where it leaves the accept out and where it has it
 pub crash_leaves : (P : World → Type 0) (old new : World) (move : Crashes old new)

@@ -134,20 +134,22 @@ flow_placed old item entry holds is =
 
 sent_kept : (p : ℕ) → MovingKeeps (SendingsSent p)
 sent_kept p = record {
-  adds_publisher = λ old new move h. subst (SendingsSent p) (sym move)
-      (push_holds old.senders p (record { text = []; staged = None; sent = [] }) (own_of p (flow old)) refl h);
-  streams = λ old new move h. subst (SendingsSent p) (sym move.kept)
-      (same_holds old.senders p move.p move.before move.after (own_of p (flow old)) move.found move.sent h);
-  sends = λ old new move h.
-      let after : Sender = record move.sender { staged = None; sent = move.sender.sent ++ move.item ∷ [] } in
-      let held_now = sends_holds old.senders p move.p move.sender after move.item (own_of p (flow old)) move.found refl
-      (ap (λ (i : Item). i.publisher) move.is) (ap (λ (i : Item). i.own) move.is) h in
-      subst (SendingsSent p) (sym move.kept)
-      (subst (SendingsHolds (slice_get (slice_set old.senders move.p after) p)) (sym (own_sent p old move.item))
-      held_now);
-  pulls = λ old new move h. subst (SendingsSent p) (sym move.kept)
-      (subst (λ xs. SendingsHolds (slice_get old.senders p) (own_of p xs))
-      (flow_pulled old move.item move.rest move.empty move.first) h);
+  sending = record {
+    adds_publisher = λ old new move h. subst (SendingsSent p) (sym move)
+        (push_holds old.senders p (record { text = []; staged = None; sent = [] }) (own_of p (flow old)) refl h);
+    streams = λ old new move h. subst (SendingsSent p) (sym move.kept)
+        (same_holds old.senders p move.p move.sender _ (own_of p (flow old)) move.found refl h);
+    sends = λ old new move h.
+        let after : Sender = record move.sender { staged = None; sent = move.sender.sent ++ move.item ∷ [] } in
+        let held_now = sends_holds old.senders p move.p move.sender after move.item (own_of p (flow old)) move.found
+        refl (ap (λ (i : Item). i.publisher) move.is) (ap (λ (i : Item). i.own) move.is) h in
+        subst (SendingsSent p) (sym move.kept)
+        (subst (SendingsHolds (slice_get (slice_set old.senders move.p after) p)) (sym (own_sent p old move.item))
+        held_now);
+    pulls = λ old new move h. subst (SendingsSent p) (sym move.kept)
+        (subst (λ xs. SendingsHolds (slice_get old.senders p) (own_of p xs))
+        (flow_pulled old move.item move.rest move.empty move.first) h);
+  };
   places = λ old new move h.
       let entry : Entry = record { number = suc (length old.sequence); item = move.item } in
       subst (SendingsSent p) (sym move.kept)

@@ -15,7 +15,8 @@ use Rattle.rb_subscriber.specs.Endpoint.{Endpoint}
 use Rattle.rb_subscriber.proofs.runs.RunLaws.{RowsKeepColumns, joined_valid}
 use Rattle.rb_core.specs.World.{Subscriber, World, world_begun, endpoint_of}
 use Rattle.rb_core.specs.Moves.{with_subscriber, Leads}
-use Rattle.rb_core.proofs.headline.Moving.{all_set, all_get, MovingKeeps, crash_leaves, kept_through}
+use Rattle.rb_core.proofs.headline.Moving.{all_set, all_get, apart_from_sending, MovingKeeps, crash_leaves}
+use Rattle.rb_core.proofs.headline.Moving.{kept_through}
 
 -- ---- the laws of endpoints
 
@@ -104,10 +105,7 @@ single_becomes old s q r h found becomes = λ valid.
 
 single_kept : SinglyLaws → MovingKeeps AreSingle
 single_kept laws = record {
-  adds_publisher = λ old new move h. subst AreSingle (sym move) h;
-  streams = λ old new move h. subst AreSingle (sym move.kept) h;
-  sends = λ old new move h. subst AreSingle (sym move.kept) h;
-  pulls = λ old new move h. subst AreSingle (sym move.kept) h;
+  sending = apart_from_sending AreSingle (λ old senders intake hand h. h);
   places = λ old new move h. subst AreSingle (sym move.kept)
       (λ valid. h (front_of_changesets old.sequence _ valid));
   closes = λ old new move h. subst AreSingle (sym move.kept) h;

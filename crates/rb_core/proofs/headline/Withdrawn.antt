@@ -8,7 +8,8 @@ use Rattle.std.proofs.lemmas.Option.{slice_get_within}
 use Rattle.rb_sequence.specs.Entry.{Entry}
 use Rattle.rb_core.specs.World.{World, world_begun}
 use Rattle.rb_core.specs.Moves.{IsNew, Leads}
-use Rattle.rb_core.proofs.headline.Moving.{all_get, all_map, MovingKeeps, crash_leaves, kept_through}
+use Rattle.rb_core.proofs.headline.Moving.{all_get, all_map, apart_from_sending, MovingKeeps, crash_leaves}
+use Rattle.rb_core.proofs.headline.Moving.{kept_through}
 
 -- ---- the numbers
 
@@ -37,10 +38,7 @@ still_placed sequence entry numbers all =
 
 once_kept : MovingKeeps WithdrawsOnce
 once_kept = record {
-  adds_publisher = λ old new move h. subst WithdrawsOnce (sym move) h;
-  streams = λ old new move h. subst WithdrawsOnce (sym move.kept) h;
-  sends = λ old new move h. subst WithdrawsOnce (sym move.kept) h;
-  pulls = λ old new move h. subst WithdrawsOnce (sym move.kept) h;
+  sending = apart_from_sending WithdrawsOnce (λ old senders intake hand h. h);
   places = λ old new move h. subst WithdrawsOnce (sym move.kept)
       (record { distinct = h.distinct; placed = still_placed old.sequence _ old.withdrawn h.placed });
   closes = λ old new move h. subst WithdrawsOnce (sym move.kept) h;

@@ -103,16 +103,23 @@ by_desk_keeps given old (Ok answer) new good picture same =
     any_steps _ (suc old.steps) (same_outline old new good picture (same answer refl))
 by_desk_keeps given old (Err why) new good picture same = good
 
+-- the same of a call, as the desk answers it after so many steps
+desk_call_keeps : {A : Type 0} (given : A → Reply) (old : State) (call : Result A DeskRefusal × Picture) → IsWorld old
+    → KeepsLimits old.desk call.1
+    → ((answer : A) → call ≡ (Ok answer, call.1) → outline_of call.1 ≡ outline_of old.desk)
+    → IsWorld (by_desk given old (answer_after old.steps call.0) call.1).1
+desk_call_keeps given old call good picture same =
+    by_desk_keeps given old (answer_after old.steps call.0) call.1 good picture
+    (λ answer is. same answer (call_after old.steps call answer is))
+
 acked_at_keeps : KeepsPictures → DeskShows → (old : State) (delivery : Delivery) (found : Option Endpoint) → IsWorld old
     → IsWorld (acked_at old delivery found).1
 unfolding after_step
 acked_at_keeps keeps shows old delivery None good = good
 acked_at_keeps keeps shows old delivery (Some end) good =
-    let call = desk.ack old.desk delivery.sub delivery.link delivery.number end.cursor in
-    by_desk_keeps reply.Floor old (answer_after old.steps call.0) call.1 good
+    desk_call_keeps reply.Floor old (desk.ack old.desk delivery.sub delivery.link delivery.number end.cursor) good
     (keeps old.desk (step.Ack delivery.sub delivery.link delivery.number end.cursor) good.picture)
-    (λ floor is. shows.acks old.desk delivery.sub delivery.link delivery.number end.cursor floor call.1
-    (call_after old.steps call floor is))
+    (λ floor is. shows.acks old.desk delivery.sub delivery.link delivery.number end.cursor floor _ is)
 
 pub acked_keeps : KeepsPictures → DeskShows → (old : State) (found : Option Delivery) → IsWorld old
     → IsWorld (acked_for old found).1
@@ -125,22 +132,18 @@ pub nacked_keeps : KeepsPictures → DeskShows → (old : State) (found : Option
 unfolding after_step
 nacked_keeps keeps shows old None good = good
 nacked_keeps keeps shows old (Some delivery) good =
-    let call = desk.nack old.desk delivery.sub delivery.link delivery.number in
-    by_desk_keeps (λ done. reply.Returned) old (answer_after old.steps call.0) call.1 good
+    desk_call_keeps (λ done. reply.Returned) old (desk.nack old.desk delivery.sub delivery.link delivery.number) good
     (keeps old.desk (step.Nack delivery.sub delivery.link delivery.number) good.picture)
-    (λ done is. shows.nacks old.desk delivery.sub delivery.link delivery.number call.1
-    (call_after old.steps call done is))
+    (λ done is. shows.nacks old.desk delivery.sub delivery.link delivery.number _ is)
 
 pub opened_keeps : KeepsPictures → DeskShows → (old : State) (found : Option Delivery) → IsWorld old
     → IsWorld (opened_for old found).1
 unfolding after_step
 opened_keeps keeps shows old None good = good
 opened_keeps keeps shows old (Some delivery) good =
-    let call = desk.nack_opened old.desk delivery.sub delivery.link delivery.number in
-    by_desk_keeps reply.Opened old (answer_after old.steps call.0) call.1 good
+    desk_call_keeps reply.Opened old (desk.nack_opened old.desk delivery.sub delivery.link delivery.number) good
     (keeps old.desk (step.NackOpened delivery.sub delivery.link delivery.number) good.picture)
-    (λ count is. shows.opens old.desk delivery.sub delivery.link delivery.number count call.1
-    (call_after old.steps call count is))
+    (λ count is. shows.opens old.desk delivery.sub delivery.link delivery.number count _ is)
 
 pub world_events_expired_keeps : KeepsPictures → DeskShows → (old : State) (now : ℕ) → IsWorld old
     → IsWorld (outcome.expired old now).1

@@ -74,4 +74,4 @@ subscriber_counts shows schema old world start s link new good h e =
         (shows old.desk start made.0 made.1 picture (is made refl)).last in
         sym same ∙ last ∙ ap (λ (ms : List Member). length ms) (sym good.members)
         ∙ length-map old.endpoints member_of_end
-        ∙ ap (λ (es : List Endpoint). length es) (sym h.ends) ∙ length-map world.subscribers endpoint_of
+        ∙ ap (λ (es : List Endpoint). length es) (sym h.subscriptions.ends) ∙ length-map world.subscribers endpoint_of

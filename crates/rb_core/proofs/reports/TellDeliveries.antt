@@ -100,7 +100,7 @@ offered_tells schema old world delivery picture event is shown good h =
     let far : old.desk.front ≡ length world.sequence =
     good.front ∙ ap (λ (entries : List Entry). length entries) (sym h.sequence) in
     let below : AllByRecursion (AreBelow delivery.number) world.subscribers =
-    subst (λ n. AllByRecursion (AreBelow n) world.subscribers) (sym shown.given) h.numbers in
+    subst (λ n. AllByRecursion (AreBelow n) world.subscribers) (sym shown.given) h.subscriptions.numbers in
     let later : AllByRecursion (AreBelow (suc delivery.number)) world.subscribers =
     later_numbers delivery.number world.subscribers below in
     let of_one : AreBelow (suc delivery.number) r =
@@ -132,17 +132,18 @@ offered_tells schema old world delivery picture event is shown good h =
     (is ∙ changed_is world delivery.sub (say.delivered delivery) q at.1)
     (inr (inr (inr (inr (inr (inr (inr (inr (inl deliveries)))))))))
     (with_subscriptions schema old (out.delivered_by old (Ok delivery) picture).1 world new
-    (h.closing ∙ sym (ap (λ (o : Outline). o.closing) kept))
-    (offered_ends world.subscribers delivery.sub q delivery at.1 ∙ h.ends)
+    (h.subscriptions.closing ∙ sym (ap (λ (o : Outline). o.closing) kept))
+    (offered_ends world.subscribers delivery.sub q delivery at.1 ∙ h.subscriptions.ends)
     (all_push (IsDelivered new.subscribers) old.deliveries delivery
     (still_offered world.subscribers delivery.sub q r old.deliveries at.1
     (λ d there. found_first (λ (x : Delivery). x.number == d.number) q.deliveries (delivery ∷ []) d there)
-    h.deliveries) here)
-    (subst (λ n. AllByRecursion (λ (m : ℕ). m < n) world.links) (sym (ap (λ (o : Outline). o.next_link) kept)) h.links)
+    h.subscriptions.deliveries) here)
+    (subst (λ n. AllByRecursion (λ (m : ℕ). m < n) world.links) (sym (ap (λ (o : Outline). o.next_link) kept))
+    h.subscriptions.links)
     (subst (λ n. AllByRecursion (AreBelow n) new.subscribers) (sym (ap (λ (o : Outline). o.next_delivery) kept))
     (all_set (AreBelow (suc delivery.number)) world.subscribers delivery.sub r later of_one))
-    (all_set (BeginsEmpty schema) world.subscribers delivery.sub r h.bases
-    (all_get (BeginsEmpty schema) world.subscribers delivery.sub q h.bases at.1)) h)
+    (all_set (BeginsEmpty schema) world.subscribers delivery.sub r h.subscriptions.bases
+    (all_get (BeginsEmpty schema) world.subscribers delivery.sub q h.subscriptions.bases at.1)) h)
 
 took_tells : TakeShows → (schema : List Shape) (old : State) (world : World) (s now : ℕ) (end : Endpoint)
     (answer : Result Delivery DeskRefusal) (picture : Picture)
@@ -271,7 +272,7 @@ known_delivery schema old world d delivery found good h =
     let test = λ (x : Delivery). x.number == d in
     record {
       of = all_find (IsOf old.endpoints old.sequence) test old.deliveries delivery good.are_of found;
-      reported = all_find (IsDelivered world.subscribers) test old.deliveries delivery h.deliveries found;
+      reported = all_find (IsDelivered world.subscribers) test old.deliveries delivery h.subscriptions.deliveries found;
       numbered = eqb-true delivery.number d (find_passes test old.deliveries delivery found);
     }
 

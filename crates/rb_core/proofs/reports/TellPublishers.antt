@@ -106,7 +106,14 @@ stages_told schema old world event given p before after change is found pairs sa
     let at = paired_get IsSender old.publishers world.senders p before h.senders found in
     let sender = at.0 in
     let stages : Streams world (with_sender world p (change sender)) =
-    record { p = p; before = sender; after = change sender; found = at.1; sent = same sender; kept = refl } in
+    record {
+      p = p;
+      sender = sender;
+      text = (change sender).text;
+      staged = (change sender).staged;
+      found = at.1;
+      kept = ap (λ (items : List Item). with_sender world p (record (change sender) { sent = items })) (same sender);
+    } in
     move_told schema world (with_sender world p (change sender)) event given (with_publisher old p after)
     (is ∙ ap (say.sender_set world p change) at.1) (inr (inr (inl stages)))
     (with_pair schema old world p after (change sender) (pairs sender at.2) h)

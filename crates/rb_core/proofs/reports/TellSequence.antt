@@ -101,7 +101,7 @@ placed_tells shows schema world mid item (Ok number) front in_hand is course h =
     record {
       item = item;
       held = holds;
-      not_closed = h.closing
+      not_closed = h.subscriptions.closing
           ∙ shown.not_closed;
       kept = ap (λ n. say.placed_from pulled n (Some item)) next;
     } in
@@ -156,12 +156,13 @@ close_tells shows schema old world good h =
     let new = (desk.close old.desk).1 in
     let shown = shows old.desk last new good.picture refl in
     let kept = shown.kept in
-    let moves = ends_told world old.desk.front last old.desk.closing h.closing good.picture.closed shown.front
-    (good.front ∙ ap (λ (entries : List Entry). length entries) (sym h.sequence)) in
+    let moves = ends_told world old.desk.front last old.desk.closing h.subscriptions.closing good.picture.closed
+    shown.front (good.front ∙ ap (λ (entries : List Entry). length entries) (sym h.sequence)) in
     let closed = (out.closed old).1 in
     move_told schema world (ended_with world (Some last)) event.Close (reply.Closed last) closed refl moves
     (with_subscriptions schema old closed world (ended_with world (Some last))
-    (sym (ap (λ (o : Outline). o.closing) kept)) h.ends h.deliveries
-    (subst (λ n. AllByRecursion (λ (m : ℕ). m < n) world.links) (sym (ap (λ (o : Outline). o.next_link) kept)) h.links)
+    (sym (ap (λ (o : Outline). o.closing) kept)) h.subscriptions.ends h.subscriptions.deliveries
+    (subst (λ n. AllByRecursion (λ (m : ℕ). m < n) world.links) (sym (ap (λ (o : Outline). o.next_link) kept))
+    h.subscriptions.links)
     (subst (λ n. AllByRecursion (AreBelow n) world.subscribers) (sym (ap (λ (o : Outline). o.next_delivery) kept))
-    h.numbers) h.bases h)
+    h.subscriptions.numbers) h.subscriptions.bases h)

@@ -79,13 +79,13 @@ subscribed_tells shows schema old world start (Ok made) picture is good h =
     let q = subscriber_begun start link (empty_tables schema) in
     let end = new_endpoint start link (empty_tables old.schema) in
     let new = say.subscribed schema world start link in
-    let linked = with_link schema old world picture (suc old.steps) link (ap (λ (o : Outline). o.closing) kept) shown.given
-    (ap (λ (o : Outline). o.next_link) kept) (ap (λ (o : Outline). o.next_delivery) kept) h in
+    let linked = (with_link schema old world picture (suc old.steps) link (ap (λ (o : Outline). o.closing) kept)
+    shown.given (ap (λ (o : Outline). o.next_link) kept) (ap (λ (o : Outline). o.next_delivery) kept) h).subscriptions in
     let far : old.desk.front ≡ length world.sequence =
     good.front ∙ ap (λ (entries : List Entry). length entries) (sym h.sequence) in
     let fresh : IsNew world.links link =
-    all_new link world.links (subst (λ n. AllByRecursion (λ (m : ℕ). m < n) world.links) (sym shown.given) h.links)
-    in
+    all_new link world.links
+    (subst (λ n. AllByRecursion (λ (m : ℕ). m < n) world.links) (sym shown.given) h.subscriptions.links) in
     let begins : Subscribes world new =
     record {
       start = start;
@@ -98,10 +98,11 @@ subscribed_tells shows schema old world start (Ok made) picture is good h =
     move_told schema world new (event.Subscribe start) (reply.Subscriber made.0 link)
     (out.subscribed_by old start (Ok made) picture).1 refl (inr (inr (inr (inr (inr (inr (inr (inl begins))))))))
     (with_subscriptions schema old (out.subscribed_by old start (Ok made) picture).1 world new linked.closing
-    (push_ends world.subscribers q old.endpoints end h.ends (one_end schema old.schema start link h.served))
-    (pushed_offers world.subscribers q old.deliveries h.deliveries) linked.links
+    (push_ends world.subscribers q old.endpoints end h.subscriptions.ends
+    (one_end schema old.schema start link h.served))
+    (pushed_offers world.subscribers q old.deliveries h.subscriptions.deliveries) linked.links
     (all_push (AreBelow picture.next_delivery) world.subscribers q linked.numbers tt)
-    (all_push (BeginsEmpty schema) world.subscribers q h.bases refl) h)
+    (all_push (BeginsEmpty schema) world.subscribers q h.subscriptions.bases refl) h)
 
 pub subscribe_tells : SubscribeShows → (schema : List Shape) (old : State) (world : World) (start : ℕ) → IsWorld old
     → IsToldBy schema old world → TellingGoes schema world (event.Subscribe start) (out.subscribed old start)
@@ -121,7 +122,8 @@ pub under_link : (schema : List Shape) (old : State) (world : World) (s link : �
     (record (with_subscriber world s r) { links = link ∷ world.links })
 under_link schema old world s link q r end picture shown found base deliveries is h =
     let kept = shown.kept in (
-      all_new link world.links (subst (λ n. AllByRecursion (λ (m : ℕ). m < n) world.links) (sym shown.given) h.links),
+      all_new link world.links
+          (subst (λ n. AllByRecursion (λ (m : ℕ). m < n) world.links) (sym shown.given) h.subscriptions.links),
       with_link schema (with_endpoint old s end) (with_subscriber world s r) picture (suc old.steps) link
           (ap (λ (o : Outline). o.closing) kept) shown.given (ap (λ (o : Outline). o.next_link) kept)
           (ap (λ (o : Outline). o.next_delivery) kept)

@@ -111,7 +111,7 @@ pub subscriber_of_end : (schema : List Shape) (old : State) (world : World) (s :
     → IsToldBy schema old world → slice_get old.endpoints s ≡ Some end → (q : Subscriber)
     × (slice_get world.subscribers s ≡ Some q) × (endpoint_of q ≡ end)
 subscriber_of_end schema old world s end h found =
-    get_of_map endpoint_of world.subscribers s end (ap (λ ends. slice_get ends s) h.ends ∙ found)
+    get_of_map endpoint_of world.subscribers s end (ap (λ ends. slice_get ends s) h.subscriptions.ends ∙ found)
 
 pub subscriber_of_member : (schema : List Shape) (old : State) (world : World) (s : ℕ) (member : Member) → IsWorld old
     → IsToldBy schema old world → slice_get (outline_of old.desk).members s ≡ Some member
@@ -155,12 +155,7 @@ with_sendings schema old new world after senders intake hand sequence withdrawn 
   intake = intake;
   hand = hand;
   sequence = sequence;
-  closing = h.closing;
-  ends = h.ends;
-  deliveries = h.deliveries;
-  links = h.links;
-  numbers = h.numbers;
-  bases = h.bases;
+  subscriptions = h.subscriptions;
   withdrawn = withdrawn;
 }
 
@@ -180,12 +175,14 @@ with_subscriptions schema old new world after closing ends deliveries links numb
   intake = h.intake;
   hand = h.hand;
   sequence = h.sequence;
-  closing = closing;
-  ends = ends;
-  deliveries = deliveries;
-  links = links;
-  numbers = numbers;
-  bases = bases;
+  subscriptions = record {
+    closing = closing;
+    ends = ends;
+    deliveries = deliveries;
+    links = links;
+    numbers = numbers;
+    bases = bases;
+  };
   withdrawn = h.withdrawn;
 }
 
@@ -195,17 +192,18 @@ pub telling_with_both : (schema : List Shape) (old : State) (world : World) (s :
     → IsToldBy schema old world
     → IsToldBy schema (with_endpoint old s end) (with_subscriber world s r)
 telling_with_both schema old world s q r end found base same is h =
-    with_subscriptions schema old (with_endpoint old s end) world (with_subscriber world s r) h.closing
-    (map_set endpoint_of world.subscribers s r ∙ ap (λ ends. slice_set ends s (endpoint_of r)) h.ends
+    let told = h.subscriptions in
+    with_subscriptions schema old (with_endpoint old s end) world (with_subscriber world s r) told.closing
+    (map_set endpoint_of world.subscribers s r ∙ ap (λ ends. slice_set ends s (endpoint_of r)) told.ends
     ∙ ap (slice_set old.endpoints s) is)
     (still_offered world.subscribers s q r old.deliveries found
-    (λ d here. ap (find (λ (x : Delivery). x.number == d.number)) same ∙ here) h.deliveries)
-    h.links
-    (all_set (AreBelow old.desk.next_delivery) world.subscribers s r h.numbers
+    (λ d here. ap (find (λ (x : Delivery). x.number == d.number)) same ∙ here) told.deliveries)
+    told.links
+    (all_set (AreBelow old.desk.next_delivery) world.subscribers s r told.numbers
     (subst (AllByRecursion (λ (o : Delivery). o.number < old.desk.next_delivery)) (sym same)
-    (all_get (AreBelow old.desk.next_delivery) world.subscribers s q h.numbers found)))
-    (all_set (BeginsEmpty schema) world.subscribers s r h.bases
-    (base ∙ all_get (BeginsEmpty schema) world.subscribers s q h.bases found)) h
+    (all_get (AreBelow old.desk.next_delivery) world.subscribers s q told.numbers found)))
+    (all_set (BeginsEmpty schema) world.subscribers s r told.bases
+    (base ∙ all_get (BeginsEmpty schema) world.subscribers s q told.bases found)) h
 
 -- ---- the desk
 
@@ -215,9 +213,10 @@ pub with_desk : (schema : List Shape) (old : State) (world : World) (desk : Pict
     → desk.next_delivery ≡ old.desk.next_delivery → IsToldBy schema old world
     → IsToldBy schema (record old { desk = desk; steps = steps }) world
 with_desk schema old world desk steps closing link delivery h =
-    with_subscriptions schema old (record old { desk = desk; steps = steps }) world world (h.closing ∙ sym closing)
-    h.ends h.deliveries (subst (λ n. AllByRecursion (λ (m : ℕ). m < n) world.links) (sym link) h.links)
-    (subst (λ n. AllByRecursion (AreBelow n) world.subscribers) (sym delivery) h.numbers) h.bases h
+    let told = h.subscriptions in
+    with_subscriptions schema old (record old { desk = desk; steps = steps }) world world (told.closing ∙ sym closing)
+    told.ends told.deliveries (subst (λ n. AllByRecursion (λ (m : ℕ). m < n) world.links) (sym link) told.links)
+    (subst (λ n. AllByRecursion (AreBelow n) world.subscribers) (sym delivery) told.numbers) told.bases h
 
 -- it gives a link
 pub with_link : (schema : List Shape) (old : State) (world : World) (desk : Picture) (steps link : ℕ)
@@ -225,12 +224,13 @@ pub with_link : (schema : List Shape) (old : State) (world : World) (desk : Pict
     → desk.next_delivery ≡ old.desk.next_delivery → IsToldBy schema old world
     → IsToldBy schema (record old { desk = desk; steps = steps }) (record world { links = link ∷ world.links })
 with_link schema old world desk steps link closing given next delivery h =
+    let told = h.subscriptions in
     let links : AllByRecursion (λ (m : ℕ). m < suc link) (link ∷ world.links) = (
       omega arith,
       later_links link world.links
-          (subst (λ n. AllByRecursion (λ (m : ℕ). m < n) world.links) (sym given) h.links),
+          (subst (λ n. AllByRecursion (λ (m : ℕ). m < n) world.links) (sym given) told.links),
     ) in
     with_subscriptions schema old (record old { desk = desk; steps = steps }) world
-    (record world { links = link ∷ world.links }) (h.closing ∙ sym closing) h.ends h.deliveries
+    (record world { links = link ∷ world.links }) (told.closing ∙ sym closing) told.ends told.deliveries
     (subst (λ n. AllByRecursion (λ (m : ℕ). m < n) (link ∷ world.links)) (sym next) links)
-    (subst (λ n. AllByRecursion (AreBelow n) world.subscribers) (sym delivery) h.numbers) h.bases h
+    (subst (λ n. AllByRecursion (AreBelow n) world.subscribers) (sym delivery) told.numbers) told.bases h

@@ -92,7 +92,7 @@ conflict_in_run law laws schema old world d conflict told valid refuses =
     let refused : accept (endpoint_of q) old.sequence delivery ≡ Err (why.Conflict conflict) =
     subst (λ e. accept e old.sequence delivery ≡ Err (why.Conflict conflict)) (sym at.2) refuses.4 in
     let base : q.base ≡ empty_tables schema =
-    all_get (BeginsEmpty schema) world.subscribers delivery.sub q told.1.bases at.1 in
+    all_get (BeginsEmpty schema) world.subscribers delivery.sub q told.1.subscriptions.bases at.1 in
     let have = columns_stay laws told.0.0 world delivery.sub q told.0.1 at.1 valid
     (subst HaveColumns (sym base) (empty_have_columns schema)) in
     let placed : AreChangesets old.sequence = subst AreChangesets told.1.sequence valid in

@@ -109,7 +109,7 @@ closed_by_then told stays limits schema events answers new run n last closing =
     (told limits schema (take n events) (take n answers) cut.0 first).1 in
     let after = stays limits schema (take n events) (drop n events) (take n answers) (drop n answers) cut.0 new last
     first
-    (run_after limits schema events answers new run n) (sym tells.closing ∙ closing) in
+    (run_after limits schema events answers new run n) (sym tells.subscriptions.closing ∙ closing) in
     (after.0, after.1 ∙ sym tells.sequence)
 
 pub left_by_then : SubscriptionStays

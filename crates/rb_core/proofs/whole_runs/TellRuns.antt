@@ -139,12 +139,7 @@ nothing_tells limits schema =
       intake = refl;
       hand = refl;
       sequence = refl;
-      closing = refl;
-      ends = refl;
-      deliveries = tt;
-      links = tt;
-      numbers = tt;
-      bases = tt;
+      subscriptions = record { closing = refl; ends = refl; deliveries = tt; links = tt; numbers = tt; bases = tt };
       withdrawn = λ n some. (λ none. tt, λ new. refl);
     }
 

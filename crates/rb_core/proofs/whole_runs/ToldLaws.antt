@@ -35,7 +35,7 @@ pub gapless_run : ((mids : List World) (new : World) (s : ℕ) (subscriber : Sub
     → HasRun new.sequence subscriber × (slice_get new.endpoints s ≡ Some (endpoint_of subscriber))
 gapless_run law schema new world s subscriber told found = (
   subst (λ sequence. HasRun sequence subscriber) told.1.sequence (law told.0.0 world s subscriber told.0.1 found),
-  mapped_in endpoint_of world.subscribers new.endpoints told.1.ends s subscriber found,
+  mapped_in endpoint_of world.subscribers new.endpoints told.1.subscriptions.ends s subscriber found,
 )
 
 -- nothing is placed behind a close, nor accepted behind one
@@ -43,8 +43,8 @@ pub closed_run : (schema : List Shape) (mid new : State) (old world : World) (la
     → IsTold schema old new world → mid.desk.closing ≡ Some last
     → (new.desk.closing ≡ Some last) × (new.sequence ≡ mid.sequence)
 closed_run schema mid new old world last before told closing =
-    let stays = nothing_placed old told.0.0 world last (before.closing ∙ closing) told.0.1 in
-    (sym told.1.closing ∙ stays.0, sym told.1.sequence ∙ stays.1 ∙ before.sequence)
+    let stays = nothing_placed old told.0.0 world last (before.subscriptions.closing ∙ closing) told.0.1 in
+    (sym told.1.subscriptions.closing ∙ stays.0, sym told.1.sequence ∙ stays.1 ∙ before.sequence)
 
 pub left_run : (schema : List Shape) (new : State) (old world : World) (s : ℕ) (subscriber : Subscriber)
     → IsTold schema old new world → slice_get old.subscribers s ≡ Some subscriber → subscriber.closed ≡ true
@@ -65,7 +65,7 @@ pub singly_run : ((mids : List World) (new : World) (s : ℕ) (subscriber : Subs
     → (end : Endpoint) × (slice_get new.endpoints s ≡ Some end)
     × HasSingleTables (empty_tables schema) subscriber.accepted end.tables
 singly_run law schema new world s subscriber told found valid at =
-    let base = all_get (BeginsEmpty schema) world.subscribers s subscriber told.1.bases found in (
+    let base = all_get (BeginsEmpty schema) world.subscribers s subscriber told.1.subscriptions.bases found in (
       endpoint_of subscriber,
       at,
       subst (λ t. HasSingleTables t subscriber.accepted subscriber.tables) base

@@ -213,13 +213,14 @@ module _ (timeout clock : ℕ) (latest : Ticket) (next : ℕ) (slots : List (Opt
             all
         due_expires = record {
           listed = subst (λ out. AreListed slots_then (keys_but key ready ++ key ∷ []) out all) out_then
-              (moved_ready slots slots_then key expired ready (kept ++ key ∷ left) all sets among_all are.listed
-              (ap (λ (h : Held). is_ready h.span.status)
-              (expired_due timeout clock latest (held_under slots key) is_due_there))
-              (ap (λ (h : Held). is_out h.span.status)
-              (expired_due timeout clock latest (held_under slots key) is_due_there))
-              (λ k waits. subst (λ t. earlier (ticket_under slots k) t ≡ true) (sym own_ticket)
-              (are.line k key waits (has_first key left))));
+              (moved_ready slots slots_then key expired ready (kept ++ key ∷ left) all sets among_all are.listed (
+                ap (λ (h : Held). is_ready h.span.status)
+                    (expired_due timeout clock latest (held_under slots key) is_due_there),
+                ap (λ (h : Held). is_out h.span.status)
+                    (expired_due timeout clock latest (held_under slots key) is_due_there),
+                λ k waits. subst (λ t. earlier (ticket_under slots k) t ≡ true) (sym own_ticket)
+                    (are.line k key waits (has_first key left)),
+              ));
           undue = λ k passed.
               ap (status_passes (is_due timeout clock)) (sets k
               ∙ ap (λ b. cond b (Some expired) (get_or slots k None)) (kept_apart k passed)) ∙ are.undue k passed;

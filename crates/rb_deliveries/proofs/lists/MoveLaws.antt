@@ -16,45 +16,49 @@ use Rattle.rb_deliveries.proofs.lists.StandLaws.{slot_changed, stands_nowhere, s
 
 -- ---- the lists
 
+-- it is ready, and its ticket comes after those of all that are
+abbrev pub WaitsLast : List (Option Held) → List ℕ → Held → Type 0
+WaitsLast slots ready x = (is_ready x.span.status ≡ true) × (is_out x.span.status ≡ false)
+    × ((k : ℕ) → lists_key k ready ≡ true → SlotAhead (get_or slots k None) (Some x))
+
+-- it is in flight, and its number is greater than those of all that are
+abbrev pub FliesLast : List (Option Held) → List ℕ → Held → Type 0
+FliesLast slots out x = (is_ready x.span.status ≡ false) × (is_out x.span.status ≡ true)
+    × ((k : ℕ) → lists_key k out ≡ true → IsLess (get_or slots k None) (Some x))
+
 module _ (old new : List (Option Held)) (key : ℕ) (x : Held) (ready out all : List ℕ)
     (sets : SetsSlot key (Some x) old new) (there : lists_key key all ≡ true)
     (listed : AreListed old ready out all) where
-  -- it is ready, and comes after all that are
-  pub moved_ready : is_ready x.span.status ≡ true → is_out x.span.status ≡ false →
-      ((k : ℕ) → lists_key k ready ≡ true → SlotAhead (get_or old k None) (Some x)) →
-      AreListed new (keys_but key ready ++ key ∷ []) (keys_but key out) all
-  moved_ready waits rests last = record {
+  pub moved_ready : WaitsLast old ready x → AreListed new (keys_but key ready ++ key ∷ []) (keys_but key out) all
+  moved_ready last = record {
     ready_keys = still_listed is_ready old new key (Some x) true ready (keys_but key ready ++ key ∷ []) all all sets
         (has_as key true all there)
-        (λ other. has_moved key other ready ∙ ap (λ b. cond (eqb key other) b (lists_key other ready)) (sym waits))
+        (λ other. has_moved key other ready ∙ ap (λ b. cond (eqb key other) b (lists_key other ready)) (sym last.0))
         listed.ready_keys;
     out_keys = still_listed is_out old new key (Some x) true out (keys_but key out) all all sets
         (has_as key true all there)
-        (λ other. has_but key other out ∙ ap (λ b. cond (eqb key other) b (lists_key other out)) (sym rests))
+        (λ other. has_but key other out ∙ ap (λ b. cond (eqb key other) b (lists_key other out)) (sym last.1))
         listed.out_keys;
     in_line = rise_tickets new (keys_but key ready ++ key ∷ [])
-        (rise_moved SlotAhead old new key (Some x) sets ready (tickets_rise old ready listed.in_line) last);
+        (rise_moved SlotAhead old new key (Some x) sets ready (tickets_rise old ready listed.in_line) last.2);
     by_number = in_order_numbers new (keys_but key out)
         (rise_gone IsLess old new key (Some x) sets out (numbers_in_order old out listed.by_number));
   }
 
-  -- it is in flight, and its number is greater than those of all that are
-  pub moved_out : is_ready x.span.status ≡ false → is_out x.span.status ≡ true →
-      ((k : ℕ) → lists_key k out ≡ true → IsLess (get_or old k None) (Some x)) →
-      AreListed new (keys_but key ready) (keys_but key out ++ key ∷ []) all
-  moved_out waits flies last = record {
+  pub moved_out : FliesLast old out x → AreListed new (keys_but key ready) (keys_but key out ++ key ∷ []) all
+  moved_out last = record {
     ready_keys = still_listed is_ready old new key (Some x) true ready (keys_but key ready) all all sets
         (has_as key true all there)
-        (λ other. has_but key other ready ∙ ap (λ b. cond (eqb key other) b (lists_key other ready)) (sym waits))
+        (λ other. has_but key other ready ∙ ap (λ b. cond (eqb key other) b (lists_key other ready)) (sym last.0))
         listed.ready_keys;
     out_keys = still_listed is_out old new key (Some x) true out (keys_but key out ++ key ∷ []) all all sets
         (has_as key true all there)
-        (λ other. has_moved key other out ∙ ap (λ b. cond (eqb key other) b (lists_key other out)) (sym flies))
+        (λ other. has_moved key other out ∙ ap (λ b. cond (eqb key other) b (lists_key other out)) (sym last.1))
         listed.out_keys;
     in_line = rise_tickets new (keys_but key ready)
         (rise_gone SlotAhead old new key (Some x) sets ready (tickets_rise old ready listed.in_line));
     by_number = in_order_numbers new (keys_but key out ++ key ∷ [])
-        (rise_moved IsLess old new key (Some x) sets out (numbers_in_order old out listed.by_number) last);
+        (rise_moved IsLess old new key (Some x) sets out (numbers_in_order old out listed.by_number) last.2);
   }
 
 -- the others' records stay
@@ -110,38 +114,28 @@ module _ (old one two new : Lanes Held) (key : ℕ) (change : Held → Held) (ar
 
   -- to the end of the line
   module _ (joins : new ≡ with_lane First (pushed_back 0 key two.first) two) where
-    line_lists : StandAs new slots_then (keys_but key (nth_list 0 old.first) ++ key ∷ [])
+    pub line_lists : StandAs new slots_then (keys_but key (nth_list 0 old.first) ++ key ∷ [])
         (keys_but key (nth_list 1 old.first)) (nth_list 0 old.second)
     line_lists = step_in_line between key joins
 
-    pub line_records : is_ready changed.span.status ≡ true → is_out changed.span.status ≡ false →
-        ((k : ℕ) → lists_key k (nth_list 0 old.first) ≡ true → SlotAhead (get_or old.slots k None) (Some changed)) →
-        AreWoven new
-    line_records waits rests last =
+    pub line_records : WaitsLast old.slots (nth_list 0 old.first) changed → AreWoven new
+    line_records last =
         records_stand line_lists (moved_ready old.slots slots_then key changed (nth_list 0 old.first)
-        (nth_list 1 old.first) (nth_list 0 old.second) sets_it there are.listed waits rests last)
-
-    pub line_held : held_in new ≡ map (held_under slots_then) (nth_list 0 old.second)
-    line_held = held_stand line_lists
+        (nth_list 1 old.first) (nth_list 0 old.second) sets_it there are.listed last)
 
     pub line_out : nth_list 1 new.first ≡ keys_but key (nth_list 1 old.first)
     line_out = out_stand line_lists
 
   -- to the end of those in flight
   module _ (joins : new ≡ with_lane First (pushed_back 1 key two.first) two) where
-    flight_lists : StandAs new slots_then (keys_but key (nth_list 0 old.first))
+    pub flight_lists : StandAs new slots_then (keys_but key (nth_list 0 old.first))
         (keys_but key (nth_list 1 old.first) ++ key ∷ []) (nth_list 0 old.second)
     flight_lists = step_in_flight between key joins
 
-    pub flight_records : is_ready changed.span.status ≡ false → is_out changed.span.status ≡ true →
-        ((k : ℕ) → lists_key k (nth_list 1 old.first) ≡ true → IsLess (get_or old.slots k None) (Some changed)) →
-        AreWoven new
-    flight_records waits flies last =
+    pub flight_records : FliesLast old.slots (nth_list 1 old.first) changed → AreWoven new
+    flight_records last =
         records_stand flight_lists (moved_out old.slots slots_then key changed (nth_list 0 old.first)
-        (nth_list 1 old.first) (nth_list 0 old.second) sets_it there are.listed waits flies last)
-
-    pub flight_held : held_in new ≡ map (held_under slots_then) (nth_list 0 old.second)
-    flight_held = held_stand flight_lists
+        (nth_list 1 old.first) (nth_list 0 old.second) sets_it there are.listed last)
 
     pub flight_out : length (nth_list 1 new.first) ≡ suc (length (keys_but key (nth_list 1 old.first)))
     flight_out =

@@ -134,10 +134,14 @@ module _ (old one two new : Lanes Held) (first last key flying : ℕ) (latest : 
 
   begun_woven : AreWoven new
   begun_woven =
-      line_records old one two new key (λ h. single_held latest first) are moves is.there is.kept joins refl refl
-      (λ k there. opened_drawn_before latest (ticket_under old.slots k) first
-      (drawn_there k (ready_key old.slots (nth_list 0 old.first) (nth_list 1 old.first) all are.listed k there).0)
-      numbers_there.0)
+      line_records old one two new key (λ h. single_held latest first) are moves is.there is.kept joins (
+        refl,
+        refl,
+        λ k there. opened_drawn_before latest (ticket_under old.slots k) first
+            (drawn_there k (ready_key old.slots (nth_list 0 old.first) (nth_list 1 old.first) all are.listed k
+            there).0)
+            numbers_there.0,
+      )
 
   begun_lists : StandAs new slots_then (keys_but key (nth_list 0 old.first) ++ key ∷ [])
       (keys_but key (nth_list 1 old.first)) all

@@ -8,11 +8,8 @@ use Rattle.rb_deliveries.specs.declared.span.Status.TheVariants.{Ready, InFlight
 use Rattle.rb_deliveries.specs.declared.ticket.Held.{Held}
 use Rattle.rb_deliveries.specs.declared.ticket.Ticket.{Ticket}
 use Rattle.rb_deliveries.specs.Lanes.{HeldRise, RiseSome, restated, stated, without_held}
-use Rattle.rb_deliveries.specs.Subs.{ComesLast, IsNewest}
-use Rattle.rb_deliveries.specs.Spans.{is_ready, is_out}
-use Rattle.rb_deliveries.specs.Taken.{IsKeyOf, NoSpanBegins, StandsLast, lists_key, held_under, held_in, nth_list}
-use Rattle.rb_deliveries.specs.Taken.{number_of}
-use Rattle.rb_deliveries.specs.Taken.{with_state}
+use Rattle.rb_deliveries.specs.Taken.{GoesLast, IsKeyOf, NoSpanBegins, StandsLast, held_in, held_under, lists_key}
+use Rattle.rb_deliveries.specs.Taken.{nth_list, with_state}
 use Rattle.rb_deliveries.proofs.lists.KeyLaws.{has_first, has_later, keys_but, map_keys}
 use Rattle.rb_deliveries.proofs.lists.BeginLaws.{begins_here, begins_key}
 
@@ -135,12 +132,8 @@ without_absent first (x ∷ xs) none =
 
 -- ---- what stands last
 
-pub waits_last : (status : Status) (ticket : Ticket) (xs : List Held) → StandsLast status ticket xs →
-    is_out status ≡ false → (is_ready status ≡ true) × ComesLast ticket xs
-waits_last (Ready taken) ticket xs last rests = (refl, last)
-waits_last (InFlight number moment) ticket xs last rests = absurd cc
-
-pub flies_last : (status : Status) (ticket : Ticket) (xs : List Held) → StandsLast status ticket xs →
-    is_out status ≡ true → (is_ready status ≡ false) × IsNewest (number_of status) xs
-flies_last (Ready taken) ticket xs last flies = absurd cc
-flies_last (InFlight number moment) ticket xs last flies = (refl, last)
+-- what goes last in flight stands last, whatever its ticket
+pub out_stands_last : (status : Status) (ticket : Ticket) (xs : List Held) → GoesLast status xs →
+    StandsLast status ticket xs
+out_stands_last (Ready taken) ticket xs last = absurd last
+out_stands_last (InFlight number moment) ticket xs last = last

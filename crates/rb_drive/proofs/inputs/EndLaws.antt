@@ -1,8 +1,9 @@
 -- The end of an input.
-use Rattle.std.proofs.Common.{◌≡◌, ◌≢◌, ℕ, ◌+◌, ◌<◌, ◌≤◌, List, [], ◌∷◌, ◌++◌, length, take, ◌⊎◌, inl, inr}
+use Rattle.std.proofs.Common.{◌≡◌, ◌≢◌, ℕ, ◌+◌, ◌<◌, ◌≤◌, List, [], ◌∷◌, ◌++◌, length, take, inl, inr}
 use Rattle.std.proofs.Common.{Option, None, Result, Ok, Err, refl, sym, ap, subst, ◌∙◌, arith}
 use Rattle.std.proofs.Common.{true, false, eqb, length-append}
 use Rattle.std.specs.Io.KnownBytes.{Consumes, Keeps, IsAtEnd}
+use Rattle.std.specs.declared.io.Error.{Error}
 use Rattle.std.proofs.lemmas.Bool.{eqb-true, eqb-false}
 use Rattle.std.proofs.lemmas.List.{append-nil}
 use Rattle.cs_model.proofs.CallerLemmas.{all_push}
@@ -13,11 +14,11 @@ use Rattle.rb_drive.specs.declared.fault.DriveFault.{DriveFault}
 use Rattle.rb_drive.specs.declared.fault.DriveFault.TheVariants as fault
 use Rattle.rb_drive.specs.declared.input.Input.{Input}
 use Rattle.rb_drive.specs.declared.input.Reading.{Reading}
-use Rattle.rb_drive.specs.Input.{AreBytesOf, AreInput, HasBadLine, HasNoBadLine, InputEnds, IsInput, NoneFollows}
-use Rattle.rb_drive.specs.Reading.{AddEnds, EndsAfter, IsReadFault, IsReadUpTo, ReadingStopsAt}
+use Rattle.rb_drive.specs.Input.{AreBytesOf, HasBadLine, HasNoBadLine, InputEnds, IsInput}
+use Rattle.rb_drive.specs.Reading.{AddEnds, EndsAfter, IsReadUpTo, ReadingStopsAt}
 use Rattle.rb_drive.proofs.inputs.BoundLaws.{bytes_few}
 use Rattle.rb_drive.proofs.inputs.InputLaws.{some_collected, bad_line, good_line}
-use Rattle.rb_drive.proofs.inputs.ReadLaws.{LineEndsReading, are_read, line_given, next_number, number_is}
+use Rattle.rb_drive.proofs.inputs.ReadLaws.{LineEndsReading, are_read, bad_stays, line_given, next_number, number_is}
 
 -- ---- the last line
 
@@ -123,26 +124,9 @@ input_stops r0 r reading count so_far many =
 
 -- where it is known whether the input is at its end
 bad_there : (bytes : List ℕ) (A B : Type 0) (n : ℕ) → (A → B) → HasBadLine bytes A n → HasBadLine bytes B n
-bad_there bytes A B n leads h = record {
-  front = h.front;
-  line = h.line;
-  rest = h.rest;
-  parts = h.parts;
-  lines = h.lines;
-  count = h.count;
-  before = h.before;
-  bad = by h.bad;
-}
-  where
-    by : (((m : List ℕ) × (h.rest ≡ 10 ∷ m)) × (AreInput (h.front ++ h.line ∷ []) → ⊥))
-        ⊎ ((A × (h.line ≢ []) × (h.rest ≡ []) × (AreInput (h.front ++ h.line ∷ []) → ⊥))
-        ⊎ ((h.line ≢ []) × NoneFollows h.front h.line))
-        → (((m : List ℕ) × (h.rest ≡ 10 ∷ m)) × (AreInput (h.front ++ h.line ∷ []) → ⊥))
-        ⊎ ((B × (h.line ≢ []) × (h.rest ≡ []) × (AreInput (h.front ++ h.line ∷ []) → ⊥))
-        ⊎ ((h.line ≢ []) × NoneFollows h.front h.line))
-    by (inl p) = inl p
-    by (inr (inl p)) = inr (inl (leads p.0, p.1, p.2, p.3))
-    by (inr (inr p)) = inr (inr p)
+bad_there bytes A B n leads h =
+    subst (λ (t : List ℕ). HasBadLine t B n) (append-nil bytes)
+    (bad_stays bytes [] A B n (λ (a : A). (refl, leads a)) h)
 
 pub ends_at_stop : (why : DriveFault) (bytes : List ℕ) (A : Type 0) (r0 r : Option (List ℕ)) → (A → IsAtEnd r)
     → Consumes r0 r bytes → ReadingStopsAt bytes A why → InputEnds (Err why) r0 r
@@ -172,18 +156,13 @@ none_is_bad bytes reading r = record {
   short = r.short;
 }
 
-pub read_ends_by_reader : (why : DriveFault) (r0 r r' : Option (List ℕ)) (reading : Reading) (count : ℕ)
-    → IsReadFault why → ReadingProgress r0 r reading count → Keeps r r' → InputEnds (Err why) r0 r'
-read_ends_by_reader (fault.Read why) r0 r r' reading count is so_far kept = (
+pub read_ends_by_reader : (why : Error) (r0 r r' : Option (List ℕ)) (reading : Reading) (count : ℕ)
+    → ReadingProgress r0 r reading count → Keeps r r' → InputEnds (Err (fault.Read why)) r0 r'
+read_ends_by_reader why r0 r r' reading count so_far kept = (
   so_far.bytes,
   Consumes-Keeps r0 r r' so_far.bytes so_far.consumed kept,
   none_is_bad so_far.bytes reading so_far.read,
 )
-read_ends_by_reader (fault.Write why) r0 r r' reading count is so_far kept = absurd is
-read_ends_by_reader (fault.Line n) r0 r r' reading count is so_far kept = absurd is
-read_ends_by_reader fault.Stopped r0 r r' reading count is so_far kept = absurd is
-read_ends_by_reader fault.Store r0 r r' reading count is so_far kept = absurd is
-read_ends_by_reader fault.Memory r0 r r' reading count is so_far kept = absurd is
 
 -- the input is at its end
 pub input_is_ended : (result : Result Input DriveFault) (r0 r r' : Option (List ℕ)) (reading : Reading)

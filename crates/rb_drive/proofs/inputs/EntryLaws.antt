@@ -53,23 +53,6 @@ abbrev IsBelow : Option ℕ → Type 0
 IsBelow None = Unit {0}
 IsBelow (Some n) = n < 64
 
--- words of a table
-record TableWords (words : List (List ℕ)) (shape : Shape) : Type 0 where
-  word : List ℕ
-  parts : words ≡ codes "table" ∷ word ∷ []
-  bytes : List ℕ
-  hex : bytes_of word ≡ Some bytes
-  header : header_of_answer (answer_of bytes) ≡ Some shape
-
--- words of a changeset
-record ChangesetWords (words : List (List ℕ)) (publisher : ℕ) (text : List ℕ) : Type 0 where
-  number : List ℕ
-  word : List ℕ
-  parts : words ≡ codes "changeset" ∷ number ∷ word ∷ []
-  publisher_is : number_in_word number ≡ Some publisher
-  few : publisher < 64
-  hex : bytes_of word ≡ Some text
-
 -- `changeset` words are no table, and `table` words no changeset
 no_shape_of_bytes : (publisher : ℕ) (bytes : Option (List ℕ)) → shape_in (changeset_of_bytes publisher bytes) ≡ None
 no_shape_of_bytes publisher None = refl
@@ -91,101 +74,94 @@ text_is_none : (bytes : Option (List ℕ)) → text_in (table_of bytes) ≡ None
 text_is_none None = refl
 text_is_none (Some bytes) = no_text_of_shape (header_of_answer (answer_of bytes))
 
-table_words : (words : List (List ℕ)) (shape : Shape) → entry_of_words words ≡ Some (Table shape)
-    → TableWords words shape
-table_words [] shape is = absurd (none-some (Table shape) is)
-table_words (a ∷ []) shape is = absurd (none-some (Table shape) is)
-table_words (a ∷ b ∷ []) shape is = by_name (same_bytes a (codes "table")) refl is
+-- a line with the words of a table
+table_words : (line : List ℕ) (words : List (List ℕ)) (shape : Shape) → length line ≤ most_of_line
+    → words_of line ≡ words → entry_of_words words ≡ Some (Table shape) → SpellsTable line shape
+table_words line [] shape short split is = absurd (none-some (Table shape) is)
+table_words line (a ∷ []) shape short split is = absurd (none-some (Table shape) is)
+table_words line (a ∷ b ∷ []) shape short split is = by_name (same_bytes a (codes "table")) refl is
   where
     by_header : (bytes : List ℕ) (found : Option Shape) → same_bytes a (codes "table") ≡ true
         → bytes_of b ≡ Some bytes → header_of_answer (answer_of bytes) ≡ found
-        → table_of_shape found ≡ Some (Table shape) → TableWords (a ∷ b ∷ []) shape
+        → table_of_shape found ≡ Some (Table shape) → SpellsTable line shape
     by_header bytes None named hex has said = absurd (none-some (Table shape) said)
     by_header bytes (Some found) named hex has said = record {
       word = b;
-      parts = ap (λ (w : List ℕ). w ∷ b ∷ []) (same_text a (codes "table") (sym named));
+      words = split ∙ ap (λ (w : List ℕ). w ∷ b ∷ []) (same_text a (codes "table") (sym named));
       bytes = bytes;
       hex = hex;
       header = has ∙ ap shape_in said;
+      short = short;
     }
 
     by_bytes : (bytes : Option (List ℕ)) → same_bytes a (codes "table") ≡ true → bytes_of b ≡ bytes
-        → table_of bytes ≡ Some (Table shape) → TableWords (a ∷ b ∷ []) shape
+        → table_of bytes ≡ Some (Table shape) → SpellsTable line shape
     by_bytes None named hex said = absurd (none-some (Table shape) said)
     by_bytes (Some bytes) named hex said =
         by_header bytes (header_of_answer (answer_of bytes)) named hex refl said
 
     by_name : (t : Bool) → same_bytes a (codes "table") ≡ t
-        → cond t (table_of (bytes_of b)) None ≡ Some (Table shape) → TableWords (a ∷ b ∷ []) shape
+        → cond t (table_of (bytes_of b)) None ≡ Some (Table shape) → SpellsTable line shape
     by_name false named said = absurd (none-some (Table shape) said)
     by_name true named said = by_bytes (bytes_of b) named refl said
-table_words (a ∷ b ∷ c ∷ []) shape is = absurd (by (same_bytes a (codes "changeset")) is)
+table_words line (a ∷ b ∷ c ∷ []) shape short split is = absurd (by (same_bytes a (codes "changeset")) is)
   where
     by : (t : Bool) → cond t (changeset_of (number_in_word b) (bytes_of c)) None ≡ Some (Table shape) → ⊥
     by false said = none-some (Table shape) said
     by true said = none-some shape (sym (no_shape (number_in_word b) (bytes_of c)) ∙ ap shape_in said)
-table_words (a ∷ b ∷ c ∷ d ∷ more) shape is = absurd (none-some (Table shape) is)
+table_words line (a ∷ b ∷ c ∷ d ∷ more) shape short split is = absurd (none-some (Table shape) is)
 
-changeset_words : (words : List (List ℕ)) (publisher : ℕ) (text : List ℕ)
-    → entry_of_words words ≡ Some (Changeset publisher text) → ChangesetWords words publisher text
-changeset_words [] publisher text is = absurd (none-some (Changeset publisher text) is)
-changeset_words (a ∷ []) publisher text is = absurd (none-some (Changeset publisher text) is)
-changeset_words (a ∷ b ∷ []) publisher text is = absurd (by (same_bytes a (codes "table")) is)
+-- a line with the words of a changeset
+changeset_words : (line : List ℕ) (words : List (List ℕ)) (n publisher : ℕ) (text : List ℕ)
+    → length line ≤ most_of_line → words_of line ≡ words → entry_of_words words ≡ Some (Changeset publisher text)
+    → SpellsChangeset line (given_at n publisher text)
+changeset_words line [] n publisher text short split is = absurd (none-some (Changeset publisher text) is)
+changeset_words line (a ∷ []) n publisher text short split is = absurd (none-some (Changeset publisher text) is)
+changeset_words line (a ∷ b ∷ []) n publisher text short split is = absurd (by (same_bytes a (codes "table")) is)
   where
     by : (t : Bool) → cond t (table_of (bytes_of b)) None ≡ Some (Changeset publisher text) → ⊥
     by false said = none-some (Changeset publisher text) said
     by true said = none-some text (sym (text_is_none (bytes_of b)) ∙ ap text_in said)
-changeset_words (a ∷ b ∷ c ∷ []) publisher text is = by_name (same_bytes a (codes "changeset")) refl is
+changeset_words line (a ∷ b ∷ c ∷ []) n publisher text short split is = by_name (same_bytes a (codes "changeset")) refl is
   where
-    by_bytes : (n : ℕ) (bytes : Option (List ℕ)) → same_bytes a (codes "changeset") ≡ true
-        → number_in_word b ≡ Some n → ltb n 64 ≡ true → bytes_of c ≡ bytes
-        → changeset_of_bytes n bytes ≡ Some (Changeset publisher text)
-        → ChangesetWords (a ∷ b ∷ c ∷ []) publisher text
-    by_bytes n None named numbered few hex said = absurd (none-some (Changeset publisher text) said)
-    by_bytes n (Some bytes) named numbered few hex said = record {
+    by_bytes : (p : ℕ) (bytes : Option (List ℕ)) → same_bytes a (codes "changeset") ≡ true
+        → number_in_word b ≡ Some p → ltb p 64 ≡ true → bytes_of c ≡ bytes
+        → changeset_of_bytes p bytes ≡ Some (Changeset publisher text)
+        → SpellsChangeset line (given_at n publisher text)
+    by_bytes p None named numbered few hex said = absurd (none-some (Changeset publisher text) said)
+    by_bytes p (Some bytes) named numbered few hex said = record {
       number = b;
       word = c;
-      parts = ap (λ (w : List ℕ). w ∷ b ∷ c ∷ []) (same_text a (codes "changeset") (sym named));
-      publisher_is = numbered ∙ ap publisher_in said;
-      few = subst IsBelow (ap publisher_in said) (ltb-true n 64 few);
+      words = split ∙ ap (λ (w : List ℕ). w ∷ b ∷ c ∷ []) (same_text a (codes "changeset") (sym named));
+      publisher = numbered ∙ ap publisher_in said;
+      few = subst IsBelow (ap publisher_in said) (ltb-true p 64 few);
       hex = hex ∙ ap text_in said;
+      short = short;
     }
 
-    by_few : (n : ℕ) (t : Bool) → same_bytes a (codes "changeset") ≡ true → number_in_word b ≡ Some n → ltb n 64 ≡ t
-        → cond t (changeset_of_bytes n (bytes_of c)) None ≡ Some (Changeset publisher text)
-        → ChangesetWords (a ∷ b ∷ c ∷ []) publisher text
-    by_few n false named numbered few said = absurd (none-some (Changeset publisher text) said)
-    by_few n true named numbered few said = by_bytes n (bytes_of c) named numbered few refl said
+    by_few : (p : ℕ) (t : Bool) → same_bytes a (codes "changeset") ≡ true → number_in_word b ≡ Some p → ltb p 64 ≡ t
+        → cond t (changeset_of_bytes p (bytes_of c)) None ≡ Some (Changeset publisher text)
+        → SpellsChangeset line (given_at n publisher text)
+    by_few p false named numbered few said = absurd (none-some (Changeset publisher text) said)
+    by_few p true named numbered few said = by_bytes p (bytes_of c) named numbered few refl said
 
     by_number : (number : Option ℕ) → same_bytes a (codes "changeset") ≡ true → number_in_word b ≡ number
         → changeset_of number (bytes_of c) ≡ Some (Changeset publisher text)
-        → ChangesetWords (a ∷ b ∷ c ∷ []) publisher text
+        → SpellsChangeset line (given_at n publisher text)
     by_number None named numbered said = absurd (none-some (Changeset publisher text) said)
-    by_number (Some n) named numbered said = by_few n (ltb n 64) named numbered refl said
+    by_number (Some p) named numbered said = by_few p (ltb p 64) named numbered refl said
 
     by_name : (t : Bool) → same_bytes a (codes "changeset") ≡ t
         → cond t (changeset_of (number_in_word b) (bytes_of c)) None ≡ Some (Changeset publisher text)
-        → ChangesetWords (a ∷ b ∷ c ∷ []) publisher text
+        → SpellsChangeset line (given_at n publisher text)
     by_name false named said = absurd (none-some (Changeset publisher text) said)
     by_name true named said = by_number (number_in_word b) named refl said
-changeset_words (a ∷ b ∷ c ∷ d ∷ more) publisher text is = absurd (none-some (Changeset publisher text) is)
+changeset_words line (a ∷ b ∷ c ∷ d ∷ more) n publisher text short split is = absurd (none-some (Changeset publisher text) is)
 
 pub table_spelled : (line : List ℕ) (shape : Shape) → length line ≤ most_of_line
     → entry_spelled line ≡ Some (Table shape) → SpellsTable line shape
-table_spelled line shape short is =
-    let w = table_words (words_of line) shape is in
-    record { word = w.word; words = w.parts; bytes = w.bytes; hex = w.hex; header = w.header; short = short }
+table_spelled line shape short is = table_words line (words_of line) shape short refl is
 
 pub changeset_spelled : (line : List ℕ) (n publisher : ℕ) (text : List ℕ) → length line ≤ most_of_line
     → entry_spelled line ≡ Some (Changeset publisher text) → SpellsChangeset line (given_at n publisher text)
-changeset_spelled line n publisher text short is =
-    let w = changeset_words (words_of line) publisher text is in
-    record {
-      number = w.number;
-      word = w.word;
-      words = w.parts;
-      publisher = w.publisher_is;
-      few = w.few;
-      hex = w.hex;
-      short = short;
-    }
+changeset_spelled line n publisher text short is = changeset_words line (words_of line) n publisher text short refl is

@@ -128,9 +128,11 @@ adding_stops reading line b why after same is h =
 
 -- ---- bytes
 
--- a bad line stays one when more comes
-bad_longer : (bytes more : List ℕ) (n : ℕ) → HasBadLine bytes ⊥ n → HasBadLine (bytes ++ more) ⊥ n
-bad_longer bytes more n h = record {
+-- A bad line stays one when more comes. If it ends with the input, nothing may come, and what then
+-- holds of the end may be another thing.
+pub bad_stays : (bytes more : List ℕ) (A B : Type 0) (n : ℕ) → (A → (more ≡ []) × B) → HasBadLine bytes A n
+    → HasBadLine (bytes ++ more) B n
+bad_stays bytes more A B n ends h = record {
   front = h.front;
   line = h.line;
   rest = h.rest ++ more;
@@ -143,19 +145,21 @@ bad_longer bytes more n h = record {
 }
   where
     by : (((m : List ℕ) × (h.rest ≡ 10 ∷ m)) × (AreInput (h.front ++ h.line ∷ []) → ⊥))
-        ⊎ ((⊥ × (h.line ≢ []) × (h.rest ≡ []) × (AreInput (h.front ++ h.line ∷ []) → ⊥))
+        ⊎ ((A × (h.line ≢ []) × (h.rest ≡ []) × (AreInput (h.front ++ h.line ∷ []) → ⊥))
         ⊎ ((h.line ≢ []) × NoneFollows h.front h.line))
         → (((m : List ℕ) × (h.rest ++ more ≡ 10 ∷ m)) × (AreInput (h.front ++ h.line ∷ []) → ⊥))
-        ⊎ ((⊥ × (h.line ≢ []) × (h.rest ++ more ≡ []) × (AreInput (h.front ++ h.line ∷ []) → ⊥))
+        ⊎ ((B × (h.line ≢ []) × (h.rest ++ more ≡ []) × (AreInput (h.front ++ h.line ∷ []) → ⊥))
         ⊎ ((h.line ≢ []) × NoneFollows h.front h.line))
     by (inl p) = inl ((p.0.0 ++ more, ap (λ (t : List ℕ). t ++ more) p.0.1), p.1)
-    by (inr (inl p)) = absurd p.0
+    by (inr (inl p)) =
+        let end = ends p.0 in
+        inr (inl (end.1, p.1, ap (λ (t : List ℕ). t ++ more) p.2 ∙ end.0, p.3))
     by (inr (inr p)) = inr (inr p)
 
 stops_at_longer : (bytes more : List ℕ) (why : DriveFault) → ReadingStopsAt bytes ⊥ why → ReadingStopsAt (bytes ++ more) ⊥ why
 stops_at_longer bytes more (fault.Read why) h = absurd h
 stops_at_longer bytes more (fault.Write why) h = absurd h
-stops_at_longer bytes more (fault.Line n) h = bad_longer bytes more n h
+stops_at_longer bytes more (fault.Line n) h = bad_stays bytes more ⊥ ⊥ n (λ (e : ⊥). absurd e) h
 stops_at_longer bytes more fault.Stopped h = absurd h
 stops_at_longer bytes more fault.Store h = absurd h
 stops_at_longer bytes more fault.Memory h = tt

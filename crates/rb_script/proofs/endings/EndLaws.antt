@@ -20,7 +20,7 @@ use Rattle.rb_script.specs.Output.{ScriptPlace, first_place}
 use Rattle.rb_script.specs.Script.{lines_of, whole_lines}
 use Rattle.rb_script.specs.Streams.{AppendsFront}
 use Rattle.rb_script.specs.Ends.{AreAnswered, IsAnswered, IsReadInPart, IsOverrun, HoldsOfLines, StopsAmong, IsCutOff}
-use Rattle.rb_script.specs.Ends.{IsStoppedAt, ScriptEnds, IsOfReader, IsOfAnswers}
+use Rattle.rb_script.specs.Ends.{IsStoppedAt, ScriptEnds, IsOfAnswers}
 use Rattle.rb_script.proofs.endings.StreamLaws.{Appends-trans, Appends-Keeps, Consumes-none, Consumes-trans, Consumes-Keeps}
 use Rattle.rb_script.proofs.endings.StreamLaws.{stream_appends_front}
 use Rattle.rb_script.proofs.endings.OutputLaws.{output-cons, output-append, stop-append, stops_later}
@@ -29,16 +29,36 @@ use Rattle.rb_script.proofs.whole_scripts.WholeLaws.{whole_is, all_is}
 
 -- ---- a piece, cut at the limit
 
-pub cut_piece : (k n : ℕ) (piece : List ℕ) → k ≤ n → take n piece ≡ take k piece ++ take (n - k) (drop k piece)
+pub length-front : (k : ℕ) (piece : List ℕ) → k ≤ length piece → length (take k piece) ≡ k
+length-front k piece le = omega (arith, length-take k piece)
+
+-- the part of a piece of n bytes that stays within the limit, and the part that is past it
+abbrev within_limit : ℕ → List ℕ → List ℕ
+within_limit count piece = take (16777216 - count) piece
+
+abbrev over_limit : ℕ → ℕ → List ℕ → List ℕ
+over_limit count n piece = take (n - (16777216 - count)) (drop (16777216 - count) piece)
+
+record IsCutAtLimit (count n : ℕ) (piece : List ℕ) : Type 0 where
+  pieces : take n piece ≡ within_limit count piece ++ over_limit count n piece
+  full : count + length (within_limit count piece) ≡ 16777216
+  more : 0 < length (over_limit count n piece)
+
+cut_piece : (k n : ℕ) (piece : List ℕ) → k ≤ n → take n piece ≡ take k piece ++ take (n - k) (drop k piece)
 cut_piece k n piece le =
     let e : n ≡ k + (n - k) = omega arith in
     ap (λ (m : ℕ). take m piece) e ∙ take-add k (n - k) piece
 
-pub length-front : (k : ℕ) (piece : List ℕ) → k ≤ length piece → length (take k piece) ≡ k
-length-front k piece le = omega (arith, length-take k piece)
-
-pub length-back : (k n : ℕ) (piece : List ℕ) → k < n → n ≤ length piece → 0 < length (take (n - k) (drop k piece))
+length-back : (k n : ℕ) (piece : List ℕ) → k < n → n ≤ length piece → 0 < length (take (n - k) (drop k piece))
 length-back k n piece lt le = omega (arith, length-take (n - k) (drop k piece), length-drop k piece)
+
+cut_at_limit : (count n : ℕ) (piece : List ℕ) → count ≤ 16777216 → 16777216 - count < n → n ≤ length piece
+    → IsCutAtLimit count n piece
+cut_at_limit count n piece within past le = record {
+  pieces = cut_piece (16777216 - count) n piece (omega (arith, past));
+  full = omega (arith, within, length-front (16777216 - count) piece (omega (arith, past, le)));
+  more = length-back (16777216 - count) n piece past le;
+}
 
 -- ---- pieces of an input
 
@@ -71,10 +91,10 @@ end_goes_on how config r0 r r' w0 w w' number number' now next count piece so_fa
 }
 
 -- a flush changes nothing that is known
-pub goes_on_handed : (how : Answering) (config : Limits) (r0 r w0 w w' : Option (List ℕ)) (number : ℕ)
-    (now : ScriptPlace) (count : ℕ) → EndProgress how config r0 r w0 w number now count → Keeps w w'
+pub goes_on_handed : {how : Answering} {config : Limits} {r0 r w0 w w' : Option (List ℕ)} {number : ℕ}
+    {now : ScriptPlace} {count : ℕ} → EndProgress how config r0 r w0 w number now count → Keeps w w'
     → EndProgress how config r0 r w0 w' number now count
-goes_on_handed how config r0 r w0 w w' number now count so_far keeps = record {
+goes_on_handed {how} {config} {w0} {w} {w'} so_far keeps = record {
   input = so_far.input;
   read = so_far.read;
   fed = record {
@@ -87,20 +107,12 @@ goes_on_handed how config r0 r w0 w w' number now count so_far keeps = record {
 }
 
 -- the next line's number is at most one more than the bytes that are read
-pub number_small : (how : Answering) (config : Limits) (r0 r w0 w : Option (List ℕ)) (number : ℕ) (now : ScriptPlace)
-    (count : ℕ) → EndProgress how config r0 r w0 w number now count → number ≤ count + 1
-number_small how config r0 r w0 w number now count so_far =
+pub number_small : {how : Answering} {config : Limits} {r0 r w0 w : Option (List ℕ)} {number : ℕ} {now : ScriptPlace}
+    {count : ℕ} → EndProgress how config r0 r w0 w number now count → number ≤ count + 1
+number_small {config} so_far =
     omega (arith, so_far.counted, so_far.fed.counted, fed_short config first_place so_far.input)
 
 -- ---- the ways to end
-
-pub ends_by_reader : (how : Answering) (config : Limits) (e : ScriptFault) (r0 r w0 w : Option (List ℕ))
-    → IsOfReader e → IsReadInPart how config r0 r w0 w → ScriptEnds {A = Unit {0}} how config (Err e) r0 r w0 w
-ends_by_reader how config (Read why) r0 r w0 w is h = h
-ends_by_reader how config (Write why) r0 r w0 w is h = absurd is
-ends_by_reader how config Endless r0 r w0 w is h = absurd is
-ends_by_reader how config Memory r0 r w0 w is h = absurd is
-ends_by_reader how config (Refused line) r0 r w0 w is h = absurd is
 
 pub ends_by_answers : (how : Answering) (config : Limits) (e : ScriptFault) (r0 r w0 w : Option (List ℕ))
     → IsOfAnswers e → IsCutOff how config r0 r w0 w → ScriptEnds {A = Unit {0}} how config (Err e) r0 r w0 w
@@ -204,9 +216,9 @@ whole_answered how config input w0 w number now fed = (
   subst (λ (early : List AnsweredLine). Appends w0 w (output_for how 1 early)) (whole_is config input) fed.said,
 )
 
-pub cut_between : (how : Answering) (config : Limits) (r0 r w0 w : Option (List ℕ)) (number : ℕ) (now : ScriptPlace)
-    (count : ℕ) → EndProgress how config r0 r w0 w number now count → count ≤ 16777216 → IsCutOff how config r0 r w0 w
-cut_between how config r0 r w0 w number now count so_far within =
+pub cut_between : {how : Answering} {config : Limits} {r0 r w0 w : Option (List ℕ)} {number : ℕ} {now : ScriptPlace}
+    {count : ℕ} → EndProgress how config r0 r w0 w number now count → count ≤ 16777216 → IsCutOff how config r0 r w0 w
+cut_between {how} {config} {r0} {r} {w0} {w} {number} {now} so_far within =
     let input : List ℕ = so_far.input in
     let whole : take 16777216 input ≡ input = take_all 16777216 input (omega (arith, so_far.counted)) in
     let said = (whole_answered how config input w0 w number now so_far.fed).1 in (
@@ -215,10 +227,10 @@ cut_between how config r0 r w0 w number now count so_far within =
       inl (rw whole (stream_appends_front w0 w (script_output how config (whole_lines input)) said)),
     )
 
-pub read_in_part : (how : Answering) (config : Limits) (r0 r r' w0 w : Option (List ℕ)) (number : ℕ)
-    (now : ScriptPlace) (count : ℕ) → EndProgress how config r0 r w0 w number now count → count ≤ 16777216
+pub read_in_part : (r' : Option (List ℕ)) {how : Answering} {config : Limits} {r0 r w0 w : Option (List ℕ)}
+    {number : ℕ} {now : ScriptPlace} {count : ℕ} → EndProgress how config r0 r w0 w number now count → count ≤ 16777216
     → Keeps r r' → IsReadInPart how config r0 r' w0 w
-read_in_part how config r0 r r' w0 w number now count so_far within keeps =
+read_in_part r' {how} {config} {r0} {r} {w0} {w} {number} {now} so_far within keeps =
     let answered = whole_answered how config so_far.input w0 w number now so_far.fed in (
       so_far.input,
       Consumes-Keeps r0 r r' so_far.input so_far.read keeps,
@@ -251,33 +263,37 @@ stop_in_piece how config e r0 r r' w0 w w' number now count piece more so_far re
           (sym all ∙ whole_is config (input ++ piece)) here)),
     )
 
-pub stop_within : (how : Answering) (config : Limits) (e : ScriptFault) (r0 r r' w0 w w' : Option (List ℕ))
-    (number : ℕ) (now : ScriptPlace) (count n : ℕ) (piece : List ℕ) → n ≤ length piece
-    → EndProgress how config r0 r w0 w number now count → Consumes r r' (take n piece)
+pub stop_within : (r' w' : Option (List ℕ)) {how : Answering} {config : Limits} (e : ScriptFault)
+    {r0 r w0 w : Option (List ℕ)} {number : ℕ} {now : ScriptPlace} {count : ℕ} (n : ℕ) (piece : List ℕ)
+    → EndProgress how config r0 r w0 w number now count → Consumes r r' (take n piece) → n ≤ length piece
     → StopsIn how number (fed_lines config now (take n piece)) e w w' → count + n ≤ 16777216
     → ScriptEnds {A = Unit {0}} how config (Err e) r0 r' w0 w'
-stop_within how config e r0 r r' w0 w w' number now count n piece le so_far read stops within =
+stop_within r' w' {how} {config} e {r0} {r} {w0} {w} {number} {now} {count} n piece so_far read le stops within =
     let front : List ℕ = take n piece in
     let len : length front ≡ n = length-front n piece le in
     stop_in_piece how config e r0 r r' w0 w w' number now count front [] so_far (rw (append-nil front) read) stops
     (λ xs whole. ap (λ (t : List ℕ). take 16777216 t) (append-nil xs)
     ∙ take_all 16777216 xs (omega (arith, whole, len, within)))
 
-pub stop_at_limit : (how : Answering) (config : Limits) (e : ScriptFault) (r0 r r' w0 w w' : Option (List ℕ))
-    (number : ℕ) (now : ScriptPlace) (count : ℕ) (piece more : List ℕ)
-    → EndProgress how config r0 r w0 w number now count → Consumes r r' (piece ++ more)
-    → StopsIn how number (fed_lines config now piece) e w w' → count + length piece ≡ 16777216
-    → ScriptEnds {A = Unit {0}} how config (Err e) r0 r' w0 w'
-stop_at_limit how config e r0 r r' w0 w w' number now count piece more so_far read stops full =
-    stop_in_piece how config e r0 r r' w0 w w' number now count piece more so_far read stops
-    (λ xs len. ap (λ (n : ℕ). take n (xs ++ more)) (sym (len ∙ full)) ∙ take-append_seam xs more)
+pub stop_at_limit : (r' w' : Option (List ℕ)) {how : Answering} {config : Limits} (e : ScriptFault)
+    {r0 r w0 w : Option (List ℕ)} {number : ℕ} {now : ScriptPlace} {count : ℕ} (n : ℕ) (piece : List ℕ)
+    → EndProgress how config r0 r w0 w number now count → Consumes r r' (take n piece) → n ≤ length piece
+    → StopsIn how number (fed_lines config now (take (16777216 - count) piece)) e w w' → count ≤ 16777216
+    → 16777216 - count < n → ScriptEnds {A = Unit {0}} how config (Err e) r0 r' w0 w'
+stop_at_limit r' w' {how} {config} e {r0} {r} {w0} {w} {number} {now} {count} n piece so_far read le stops within
+    past =
+    let cut = cut_at_limit count n piece within past le in
+    stop_in_piece how config e r0 r r' w0 w w' number now count (within_limit count piece) (over_limit count n piece)
+    so_far (subst (λ (xs : List ℕ). Consumes r r' xs) cut.pieces read) stops
+    (λ xs len. ap (λ (m : ℕ). take m (xs ++ over_limit count n piece)) (sym (len ∙ cut.full))
+    ∙ take-append_seam xs (over_limit count n piece))
 
 -- answering stops at the last line
-pub stop_at_end : (how : Answering) (config : Limits) (e : ScriptFault) (r0 r r' w0 w w' : Option (List ℕ))
-    (number : ℕ) (now : ScriptPlace) (count : ℕ) → EndProgress how config r0 r w0 w number now count
+pub stop_at_end : (r' w' : Option (List ℕ)) {how : Answering} {config : Limits} (e : ScriptFault)
+    {r0 r w0 w : Option (List ℕ)} {number : ℕ} {now : ScriptPlace} {count : ℕ} → EndProgress how config r0 r w0 w number now count
     → Consumes r r' [] → IsAtEnd r' → count ≤ 16777216 → StopsIn how number (line_at config now ∷ []) e w w'
     → ScriptEnds {A = Unit {0}} how config (Err e) r0 r' w0 w'
-stop_at_end how config e r0 r r' w0 w w' number now count so_far read end within stops =
+stop_at_end r' w' {how} {config} e {r0} {r} {w0} {w} {number} {now} so_far read end within stops =
     let input : List ℕ = so_far.input in
     let early : List AnsweredLine = fed_lines config first_place input in
     let here : StopsIn how 1 (early ++ line_at config now ∷ []) e w0 w' =
@@ -292,12 +308,12 @@ stop_at_end how config e r0 r r' w0 w w' number now count so_far read end within
     )
 
 -- the last line is answered
-pub all_answered : (how : Answering) (config : Limits) (r0 r r' w0 w w' : Option (List ℕ)) (number : ℕ)
-    (now : ScriptPlace) (count : ℕ) → EndProgress how config r0 r w0 w number now count
+pub all_answered : (r' w' : Option (List ℕ)) {how : Answering} {config : Limits} {r0 r w0 w : Option (List ℕ)}
+    {number : ℕ} {now : ScriptPlace} {count : ℕ} → EndProgress how config r0 r w0 w number now count
     → Consumes r r' [] → IsAtEnd r' → count ≤ 16777216 → stops_after how (line_at config now) ≡ false
     → Appends w w' (numbered_answer how number (line_answer config now.stage now.line).0)
     → IsAnswered how config r0 r' w0 w'
-all_answered how config r0 r r' w0 w w' number now count so_far read end within quiet said =
+all_answered r' w' {how} {config} {r0} {r} {w0} {w} {number} {now} so_far read end within quiet said =
     let input : List ℕ = so_far.input in
     let early : List AnsweredLine = fed_lines config first_place input in
     let x : AnsweredLine = line_at config now in
@@ -323,33 +339,40 @@ all_answered how config r0 r r' w0 w w' number now count so_far read end within 
       ),
     )
 
-pub overruns : (how : Answering) (config : Limits) (r0 r r' w0 w w' : Option (List ℕ)) (number number' : ℕ)
-    (now next : ScriptPlace) (count : ℕ) (piece more : List ℕ) → EndProgress how config r0 r w0 w number now count
-    → Consumes r r' (piece ++ more) → AreFed how config number now piece w w' number' next
-    → count + length piece ≡ 16777216 → 0 < length more → IsOverrun how config r0 r' w0 w'
-overruns how config r0 r r' w0 w w' number number' now next count piece more so_far read fed full past =
+pub overruns : (r' : Option (List ℕ)) {how : Answering} {config : Limits} {r0 r w0 w w' : Option (List ℕ)}
+    {number number' : ℕ} {now next : ScriptPlace} {count : ℕ} (n : ℕ) (bytes : List ℕ) → EndProgress how config r0 r w0 w number now count
+    → Consumes r r' (take n bytes) → n ≤ length bytes
+    → AreFed how config number now (take (16777216 - count) bytes) w w' number' next → count ≤ 16777216
+    → 16777216 - count < n → IsOverrun how config r0 r' w0 w'
+overruns r' {how} {config} {r0} {r} {w0} {w} {w'} {number} {number'} {now} {next} {count} n bytes so_far read le fed
+    within past =
+    let parts = cut_at_limit count n bytes within past le in
+    let piece : List ℕ = within_limit count bytes in
+    let more : List ℕ = over_limit count n bytes in
     let input : List ℕ = so_far.input in
     let all : List ℕ = (input ++ piece) ++ more in
     let both : AreFed how config 1 first_place (input ++ piece) w0 w' number' next =
     fed_after_fed how config 1 number number' first_place now next input piece w0 w w' so_far.fed fed in
     let answered = whole_answered how config (input ++ piece) w0 w' number' next both in
     let len : length (input ++ piece) ≡ 16777216 = length-append input piece
-    ∙ ap (λ (n : ℕ). n + length piece) so_far.counted ∙ full in
+    ∙ ap (λ (n : ℕ). n + length piece) so_far.counted ∙ parts.full in
     let cut : take 16777216 all ≡ input ++ piece = ap (λ (n : ℕ). take n all) (sym len)
     ∙ take-append_seam (input ++ piece) more in (
       all,
-      rw (append_assoc input piece more) (Consumes-trans r0 r r' input (piece ++ more) so_far.read read),
-      omega (arith, length-append (input ++ piece) more, len),
+      rw (append_assoc input piece more) (Consumes-trans r0 r r' input (piece ++ more) so_far.read
+          (subst (λ (xs : List ℕ). Consumes r r' xs) parts.pieces read)),
+      omega (arith, length-append (input ++ piece) more, len, parts.more),
       (rw cut answered.0, rw cut answered.1),
     )
 
 -- ---- the turns of the loop over the pieces
 
-pub goes_on_by : (how : Answering) (config : Limits) (r0 r r' w0 w w' : Option (List ℕ)) (number number' : ℕ)
-    (now next : ScriptPlace) (count n : ℕ) (piece : List ℕ) → n ≤ length piece
-    → EndProgress how config r0 r w0 w number now count → Consumes r r' (take n piece)
+pub goes_on_by : {how : Answering} {config : Limits} {r0 r r' w0 w w' : Option (List ℕ)} {number number' : ℕ}
+    {now next : ScriptPlace} {count : ℕ} (n : ℕ) (piece : List ℕ) → EndProgress how config r0 r w0 w number now count
+    → Consumes r r' (take n piece) → n ≤ length piece
     → AreFed how config number now (take n piece) w w' number' next
     → EndProgress how config r0 r' w0 w' number' next (count + n)
-goes_on_by how config r0 r r' w0 w w' number number' now next count n piece le so_far read fed =
+goes_on_by {how} {config} {r0} {r} {r'} {w0} {w} {w'} {number} {number'} {now} {next} {count} n piece so_far read le
+    fed =
     subst (λ (m : ℕ). EndProgress how config r0 r' w0 w' number' next (count + m)) (length-front n piece le)
     (end_goes_on how config r0 r r' w0 w w' number number' now next count (take n piece) so_far read fed)

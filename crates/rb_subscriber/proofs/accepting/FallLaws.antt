@@ -16,7 +16,7 @@ use Rattle.rb_sequence.specs.Entry.{Entry}
 use Rattle.rb_subscriber.specs.Accept.{HasSingleTables, accept_brought, applied, applied_if_admitted, first_outside_entry}
 use Rattle.rb_subscriber.specs.Accept.{joined_bodies, refusal_before}
 use Rattle.rb_subscriber.specs.AcceptShown.{DueAnswers}
-use Rattle.rb_subscriber.specs.Durable.{Falls, IsPendingOver, KeepAnswers, KeptAnswers}
+use Rattle.rb_subscriber.specs.Durable.{DurableAnswers, Falls, IsPendingOver, KeepAnswers, KeptAnswers, durable_by}
 use Rattle.rb_subscriber.specs.Endpoint.{Endpoint}
 use Rattle.rb_subscriber.specs.Shown.{ShowDelivery, entries_told}
 use Rattle.rb_subscriber.specs.Subscription.{PendingAccept, SubscriptionState, own_endpoint}
@@ -68,6 +68,13 @@ pub due_kept : (cells : Cells) (d : Delivery) (result : Result ℕ SubscriptionE
 due_kept cells d (Err (Refused refusal.Store)) old new free due =
     absurd (no_store (own_endpoint old) (entries_told due.1) d free due.3)
 due_kept cells d result old new free due = due
+
+-- and those of a delivery that isn't refused before its entries are asked
+pub durable_free : (cells : Cells) (d : Delivery) (result : Result ℕ SubscriptionError) (old new : SubscriptionState)
+    → None ≡ refusal_before (own_endpoint old) d → KeptAnswers cells d result old new
+    → DurableAnswers cells d result old new
+durable_free cells d result old new free answers =
+    subst (λ (o : Option AcceptRefusal). durable_by o cells d result old new) free answers
 
 -- ---- the fall
 

@@ -4,6 +4,9 @@ use Rattle.std.specs.Prelude.{OnOk, IfOk, IfErr}
 use Rattle.cs_apply.specs.Columns.{HaveColumns}
 use Rattle.cs_apply.specs.Single.{single}
 use Rattle.cs_apply.specs.State.{TableState}
+use Rattle.cs_apply.specs.Errors.{ReportsConflict}
+use Rattle.cs_apply.specs.declared.conflict.ApplyError.{ApplyError}
+use Rattle.cs_apply.specs.declared.conflict.ApplyError.TheVariants as applying
 use Rattle.cs_apply.specs.declared.conflict.Conflict.{Conflict}
 use Rattle.cs_group.specs.Group.{group_of}
 use Rattle.par_apply.specs.Durable.{changed_tables}
@@ -60,6 +63,28 @@ abbrev pub AppliesAsSingly : Endpoint → List Entry → Delivery → Type 0
 AppliesAsSingly old entries d = (new : Endpoint) (tables : TableState) → AreChangesets entries → HaveColumns old.tables
     → accept_brought old entries d ≡ Ok new → AppliesSingly old.tables entries tables → new.tables ≡ tables
 
+-- where the group applies to these tables, it leaves what one thread gets
+pub applies_here : (old : Endpoint) (entries : List Entry) (d : Delivery) (now new : TableState)
+    → AppliesAsSingly old entries d → refusal_before old d ≡ None
+    → first_outside_entry old.tables.schema entries ≡ None → AreChangesets entries × HaveColumns old.tables
+    → now ≡ old.tables → single now (group_of (joined_bodies entries)) ≡ Ok new → HasSingleTables old.tables entries new
+applies_here old entries d now new law free none known same is =
+    let here = subst (λ (t : TableState). single t (group_of (joined_bodies entries)) ≡ Ok new) same is in
+    λ tables. law (record old { cursor = d.last; tables = new }) tables known.0 known.1
+    (asked old entries d (Ok new) free none here)
+
+-- where it conflicts with them, so do the bodies
+pub conflicts_here : (old : Endpoint) (entries : List Entry) (d : Delivery) (now : TableState) (found : ApplyError)
+    (conflict : Conflict) → ConflictsAsSingly old entries d → refusal_before old d ≡ None
+    → first_outside_entry old.tables.schema entries ≡ None → AreChangesets entries × HaveColumns old.tables
+    → now ≡ old.tables → found ≡ applying.Conflict conflict
+    → ReportsConflict found (single now (group_of (joined_bodies entries))) → ConflictsSingly old.tables entries
+conflicts_here old entries d now found conflict law free none known same is reports =
+    let group = group_of (joined_bodies entries) in
+    let there = subst (λ (e : ApplyError). ReportsConflict e (single now group)) is reports in
+    let here = subst (λ (t : TableState). single t group ≡ Err conflict) same there in
+    law conflict known.0 known.1 (asked old entries d (Err conflict) free none here)
+
 kept_singly : (old new : Endpoint) (entries : List Entry) (d : Delivery) (result : Result ℕ KeepError)
     → AppliesAsSingly old entries d → KeepAnswers result (accept_brought old entries d) old new
     → OnKeepTables result (AreChangesets entries × HaveColumns old.tables)
@@ -84,6 +109,13 @@ kept_conflicts : (old new : Endpoint) (entries : List Entry) (d : Delivery) (res
 kept_conflicts old new entries d (Err (keep.Refused (refusal.Conflict conflict))) law answers known =
     law conflict known.0 known.1 answers.0
 kept_conflicts old new entries d result law answers known = tt
+
+-- what is known where the tables are reached, whatever the result is
+pub asked_tables : (result : Result ℕ KeepError) (P : Type 0) → P → OnKeepTables result P
+asked_tables (Ok cursor) P known = known
+asked_tables (Err (keep.Refused (refusal.Conflict conflict))) P known = known
+asked_tables (Err (keep.Store plan)) P known = known
+asked_tables result P known = tt
 
 -- what the laws say of an accept, whatever its result is
 pub record KeptSingly (old new : Endpoint) (entries : List Entry) (result : Result ℕ KeepError) : Type 0 where

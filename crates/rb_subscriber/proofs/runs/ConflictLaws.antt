@@ -15,9 +15,7 @@ use Rattle.rb_subscriber.specs.declared.refusal.AcceptRefusal.{AcceptRefusal}
 use Rattle.rb_subscriber.specs.declared.refusal.AcceptRefusal.TheVariants as refusal
 use Rattle.rb_subscriber.specs.Accept.{joined_bodies, applied, applied_if_admitted, accept_brought}
 use Rattle.rb_subscriber.specs.Accept.{first_outside_entry, refusal_before, taken_unless_refused}
-use Rattle.rb_subscriber.specs.declared.refusal.AcceptError.{AcceptError}
-use Rattle.rb_subscriber.specs.declared.refusal.AcceptError.TheVariants.{Refused}
-use Rattle.rb_subscriber.specs.Accept.{AcceptAnswers, AreChangesets, ConflictsSingly, OnConflict}
+use Rattle.rb_subscriber.specs.Accept.{AreChangesets, ConflictsSingly}
 use Rattle.rb_subscriber.specs.Endpoint.{Endpoint}
 use Rattle.rb_subscriber.proofs.runs.RunLaws.{RunContinues, joined_valid, nothing_applies}
 
@@ -119,14 +117,3 @@ conflict_singly goes group old entries delivery conflict valid have e =
 abbrev pub ConflictsAsSingly : Endpoint → List Entry → Delivery → Type 0
 ConflictsAsSingly old entries delivery = (conflict : Conflict) → AreChangesets entries → HaveColumns old.tables
     → accept_brought old entries delivery ≡ Err (refusal.Conflict conflict) → ConflictsSingly old.tables entries
-
--- so it is where a call refuses for a conflict, of which the bodies and the rows are known
-pub conflict_answers : (old new : Endpoint) (entries : List Entry) (delivery : Delivery)
-    (result : Result ℕ AcceptError)
-    → ConflictsAsSingly old entries delivery
-    → AcceptAnswers result (accept_brought old entries delivery) old new
-    → OnConflict result (AreChangesets entries × HaveColumns old.tables)
-    → OnConflict result (ConflictsSingly old.tables entries)
-conflict_answers old new entries delivery (Err (Refused (refusal.Conflict conflict))) law answers known =
-    law conflict known.0 known.1 answers.0
-conflict_answers old new entries delivery result law answers known = tt

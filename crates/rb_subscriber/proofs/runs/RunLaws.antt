@@ -1,7 +1,6 @@
 -- What is accepted is one contiguous run, and its group leaves what its bodies leave.
-use Rattle.std.proofs.Common.{◌≡◌, ◌↔◌, ℕ, suc, ◌+◌, ◌-◌, ◌≤◌, List, [], ◌∷◌, ◌++◌, length, take, drop, Result, Ok, Err}
+use Rattle.std.proofs.Common.{◌≡◌, ◌↔◌, ℕ, suc, ◌+◌, ◌-◌, ◌≤◌, List, [], ◌∷◌, ◌++◌, length, take, drop, Ok}
 use Rattle.std.proofs.Common.{refl, sym, ap, subst, ◌∙◌, arith}
-use Rattle.std.specs.Prelude.{OnOk}
 use Rattle.std.proofs.Math.Seq.{take-add}
 use Rattle.std.proofs.lemmas.List.{drop-drop, take-append-le, drop-append-le, length-drop}
 use Rattle.cs_model.proofs.CallerLemmas.{all_append}
@@ -15,8 +14,7 @@ use Rattle.cs_group.specs.Group.{group_of}
 use Rattle.rb_desk.specs.declared.delivery.Delivery.{Delivery}
 use Rattle.rb_sequence.specs.Entry.{Entry}
 use Rattle.rb_subscriber.specs.Accept.{part, brought, joined_bodies, accept, accept_brought, accepted_entries, AppliesSingly}
-use Rattle.rb_subscriber.specs.declared.refusal.AcceptError.{AcceptError}
-use Rattle.rb_subscriber.specs.Accept.{AcceptAnswers, AreChangesets}
+use Rattle.rb_subscriber.specs.Accept.{AreChangesets}
 use Rattle.rb_subscriber.specs.Endpoint.{Endpoint}
 use Rattle.rb_subscriber.proofs.accepting.AcceptLaws.{accepted_steps}
 
@@ -107,19 +105,6 @@ tables_singly goes group old entries delivery new tables valid have e singly =
     let other = group old.tables tables (joined_bodies entries) (joined_valid entries valid) have
     (singly_joined goes old.tables entries tables singly) in
     cc (sym (accepted_steps old entries delivery new e).tables ∙ other)
-
--- so it is where a call returns Ok, of which the bodies and the rows are known
-pub singly_answers : (old new : Endpoint) (entries : List Entry) (delivery : Delivery) (result : Result ℕ AcceptError)
-    → ((tables : tables.TableState) → AreChangesets entries → HaveColumns old.tables
-    → accept_brought old entries delivery ≡ Ok new → AppliesSingly old.tables entries tables
-    → new.tables ≡ tables)
-    → AcceptAnswers result (accept_brought old entries delivery) old new
-    → OnOk result (AreChangesets entries × HaveColumns old.tables)
-    → OnOk result ((tables : tables.TableState) → AppliesSingly old.tables entries tables
-    → new.tables ≡ tables)
-singly_answers old new entries delivery (Ok cursor) law answers known = λ tables.
-    law tables known.0 known.1 answers.0
-singly_answers old new entries delivery (Err why) law answers known = tt
 
 -- rows keep their columns
 abbrev pub RowsKeepColumns : Type 0

@@ -10,7 +10,6 @@ use Rattle.sqlite.specs.Does.{Tally, lacks_sequence}
 use Rattle.sqlite.specs.Edit.{edit_of, edited}
 use Rattle.sqlite.specs.Effect.{Database}
 use Rattle.sqlite.specs.Rowids.TheVariants.{Chosen}
-use Rattle.sqlite.specs.Rows.{Written}
 use Rattle.sqlite.specs.State.{State, Writes, Executes, ExecutesInside}
 use Rattle.sqlite.specs.declared.error.Error.{Error}
 use Rattle.sqlite.proofs.Callers.{runs_as, one_step}
@@ -21,6 +20,7 @@ use Rattle.replica_store.proofs.statements.Texts.{MakesThisTable, unplaced_mark,
 use Rattle.replica_store.proofs.statements.Texts.{makes_row_table, create_mark_text, makes_mark_table}
 use Rattle.replica_store.proofs.statements.Texts.{first_mark_text, first_mark_terms, means_first_mark}
 use Rattle.replica_store.proofs.statements.Did.{did}
+use Rattle.replica_store.proofs.statements.Inserts.{has_inserted}
 use Rattle.replica_store.proofs.statements.Parts.{not_stopped, value_given, two_not_zero, cast_null, cast_int}
 
 -- the schema and the trees once the table is made
@@ -92,25 +92,18 @@ pub first_mark_put : (old new : State) (r : Result ℕ Error) → HasBothTables 
 first_mark_put old new (Err e) was h = tt
 first_mark_put old new (Ok count) was h =
     let db = old.now.trees in
-    let command = Insert 1 (Values first_mark_terms 3) in
-    let did_so = did first_mark_text [] old new command count means_first_mark (λ t w. w) was.schema h.0 in
-    let done = not_stopped did_so.does in
-    let now = ap (λ (p : Tally × Database). p.1) (value_given (not_stopped (not_stopped done.2).2).2) in
-    let given = not_stopped done.1 in
-    let written = not_stopped (not_stopped given.2).2 in
-    let counted = not_stopped written.2 in
-    let trees : done.0.trees ≡ written.0 = ap (λ (it : Written). it.trees) (value_given counted.2)
-    ∙ value_given counted.1 in
-    let applied = one_step replica_schema _ db written.0 (edit_of db rb_mark [] Chosen 0 given.0) refl written.1 in
-    let all : new.now.trees ≡ written.0 = ap (λ (d : Database). d.trees) now ∙ trees in
-    let edit : edited db (edit_of db rb_mark [] Chosen 0 given.0) ≡ mark_record 0 ∷ [] =
-    ap (λ rows. edited db (edit_of db rb_mark [] Chosen 0 rows)) given.1.1
+    let from = Values first_mark_terms 3 in
+    let ran = did first_mark_text [] old new (Insert 1 from) count means_first_mark (λ t w. w) was.schema h.0 in
+    let it = has_inserted old rb_mark [] 1 from ran.tally new.now refl ran.does in
+    let applied = one_step replica_schema _ db new.now.trees (edit_of db rb_mark [] Chosen 0 it.rows) refl it.written in
+    let edit : edited db (edit_of db rb_mark [] Chosen 0 it.rows) ≡ mark_record 0 ∷ [] =
+    ap (λ rows. edited db (edit_of db rb_mark [] Chosen 0 rows)) it.given.1
     ∙ rw (was.unmarked, cast_null, cast_int (pos 1), cast_int (pos 0)) in
-    let rows = ap (λ (t : Trees). t 0) all ∙ applied.tables.0 (λ e. two_not_zero (sym e)) ∙ was.empty in
-    let mark = ap (λ (t : Trees). t 2) all ∙ applied.rows ∙ edit in
+    let rows = applied.tables.0 (λ e. two_not_zero (sym e)) ∙ was.empty in
+    let mark = applied.rows ∙ edit in
     record {
       inside = h.1.mode;
-      schema = ap (λ (d : Database). d.schema) now;
+      schema = it.schema;
       replica =
           new_replica new.now.trees rows mark;
     }

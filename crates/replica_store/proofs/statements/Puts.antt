@@ -3,7 +3,7 @@ use Rattle.std.proofs.Common.{◌≡◌, inl, inr, ℕ, ℤ, pos, List, [], ◌�
 use Rattle.std.proofs.Common.{subst, ◌∙◌}
 use Rattle.sqlite_value.specs.declared.value.Value.TheVariants.{Int, Blob}
 use Rattle.sqlite.specs.Order.{Row}
-use Rattle.sqlite.specs.Tree.{Trees, IsTable}
+use Rattle.sqlite.specs.Tree.{IsTable}
 use Rattle.sqlite_trees.proofs.TreeLemmas.{IsTable-put_row}
 use Rattle.sqlite.specs.Source.TheVariants.{Values}
 use Rattle.sqlite.specs.Command.TheVariants.{Insert}
@@ -11,9 +11,6 @@ use Rattle.sqlite.specs.Edit.{edit_of, put_all, next_rowid, are_fresh}
 use Rattle.sqlite.specs.Rowids.TheVariants.{Chosen}
 use Rattle.sqlite_rules.specs.Lists.{Has}
 use Rattle.sqlite_rules.proofs.TableLemmas.{put_all_has, put_all_keeps, put_all_adds}
-use Rattle.sqlite.specs.Does.{Tally}
-use Rattle.sqlite.specs.Rows.{Written}
-use Rattle.sqlite.specs.Effect.{Database}
 use Rattle.sqlite.specs.declared.error.Error.{Error}
 use Rattle.sqlite.specs.State.{State, Executes, ExecutesInside}
 use Rattle.sqlite.proofs.Callers.{one_step}
@@ -22,7 +19,8 @@ use Rattle.replica_store.specs.Layout.{replica_schema, rb_row}
 use Rattle.replica_store.specs.Picture.{row_record, Stores, AreSameRows}
 use Rattle.replica_store.specs.Inside.{WithBody, IsInside, ChangesRows}
 use Rattle.replica_store.proofs.statements.Did.{did}
-use Rattle.replica_store.proofs.statements.Parts.{not_stopped, value_given, two_not_zero, cast_null, cast_int}
+use Rattle.replica_store.proofs.statements.Inserts.{has_inserted}
+use Rattle.replica_store.proofs.statements.Parts.{two_not_zero, cast_null, cast_int}
 use Rattle.replica_store.proofs.statements.Texts.{insert_text, insert_terms, means_insert}
 use Rattle.replica_store.proofs.statements.DeletedRows.{key_of_parts}
 
@@ -43,27 +41,21 @@ puts_row : (old new : State) (key : RowKey) (body : List ℕ) (count : ℕ) → 
 puts_row old new key body count has h =
     let params = row_params key body in
     let db = old.now.trees in
-    let command = Insert 0 (Values insert_terms 4) in
-    let done = not_stopped (did insert_text params old new command count means_insert (λ t w. w) has h).does in
-    let now = ap (λ (p : Tally × Database). p.1) (value_given (not_stopped (not_stopped done.2).2).2) in
-    let rows = not_stopped done.1 in
-    let written = not_stopped (not_stopped rows.2).2 in
-    let counted = not_stopped written.2 in
-    let trees : done.0.trees ≡ written.0 = ap (λ (it : Written). it.trees) (value_given counted.2)
-    ∙ value_given counted.1 in
-    let edit = edit_of db rb_row [] Chosen 0 rows.0 in
-    let applied = one_step replica_schema _ db written.0 edit refl written.1 in
-    let all : new.now.trees ≡ written.0 = ap (λ (d : Database). d.trees) now ∙ trees in
+    let from = Values insert_terms 4 in
+    let ran = did insert_text params old new (Insert 0 from) count means_insert (λ t w. w) has h in
+    let it = has_inserted old rb_row params 0 from ran.tally new.now refl ran.does in
+    let edit = edit_of db rb_row [] Chosen 0 it.rows in
+    let applied = one_step replica_schema _ db new.now.trees edit refl it.written in
     let id = next_rowid (db 0) in
     let news : edit.news ≡ row_record id key body ∷ [] =
-    ap (λ sources. (edit_of db rb_row [] Chosen 0 sources).news) rows.1.1
+    ap (λ sources. (edit_of db rb_row [] Chosen 0 sources).news) it.given.1
     ∙ rw (cast_null, cast_int (pos key.table)) in
     record {
-      schema = ap (λ (d : Database). d.schema) now;
+      schema = it.schema;
       id = id;
       fresh = subst (λ new. are_fresh (db 0) new ≡ true) news applied.fresh;
-      rows = ap (λ (t : Trees). t 0) all ∙ applied.rows ∙ ap (put_all (db 0)) news;
-      mark = ap (λ (t : Trees). t 2) all ∙ applied.tables.1.0 two_not_zero;
+      rows = applied.rows ∙ ap (put_all (db 0)) news;
+      mark = applied.tables.1.0 two_not_zero;
     }
 
 same_record : (id i : ℤ) (key k : RowKey) (body b : List ℕ) → row_record i k b ≡ row_record id key body

@@ -9,4 +9,4 @@ returns-clause-run c = λ limits schema events answers new s subscriber run foun
 
 pub returns-clause-all : goal.returns-clause-all
 returns-clause-all c = λ limits schema events answers new run.
-    (c.runs_are_told.ensures.told limits schema events answers new run).1.ends
+    (c.runs_are_told.ensures.told limits schema events answers new run).1.subscriptions.ends

@@ -17,7 +17,7 @@ use Rattle.rb_deliveries.proofs.kept.expire_due.Goals as goal
 pub overflow_add-many : goal.overflow_add-many
 overflow_add-many c =
     let i = c.loop-past.invariant in
-    let f = past_has_due c.args.timeout c.args.clock c.loop-past.subs.items c.loop-past.moments c.loop-past.past
+    let f = past_has_due c.args.timeout c.args.clock c.loop-past.subs.items c.loop-past.waiting.moments c.loop-past.past
     c.in-Some.s i.waiting.in_flight i.past c.in-Some.is in
     let same = c.index.ensures ∙ get_or_from_slice_get c.loop-past.subs.items c.in-Some.s f.0 c.index.result.now f.1 in
     omega (
@@ -32,7 +32,7 @@ overflow_add-many c =
 pub index_mut-requires : goal.index_mut-requires
 index_mut-requires c =
     let i = c.loop-past.invariant in
-    let f = past_has_due c.args.timeout c.args.clock c.loop-past.subs.items c.loop-past.moments c.loop-past.past
+    let f = past_has_due c.args.timeout c.args.clock c.loop-past.subs.items c.loop-past.waiting.moments c.loop-past.past
     c.in-Some.s i.waiting.in_flight i.past c.in-Some.is in
     omega (arith, slice_get_within c.loop-past.subs.items c.in-Some.s f.0 f.1, c.loop-past.subs.ok)
 
@@ -53,7 +53,7 @@ loop-past-init c = record {
 pub expire-requires-clause-drawn : goal.expire-requires-clause-drawn
 expire-requires-clause-drawn c =
     let i = c.loop-past.invariant in
-    let f = past_has_due c.args.timeout c.args.clock c.loop-past.subs.items c.loop-past.moments c.loop-past.past
+    let f = past_has_due c.args.timeout c.args.clock c.loop-past.subs.items c.loop-past.waiting.moments c.loop-past.past
     c.in-Some.s i.waiting.in_flight i.past c.in-Some.is in
     let same = c.index_mut.ensures.value
     ∙ get_or_from_slice_get c.loop-past.subs.items c.in-Some.s f.0 c.index_mut.result.now f.1 in
@@ -66,7 +66,7 @@ expire-requires-clause-drawn c =
 pub loop-past-smaller : goal.loop-past-smaller
 loop-past-smaller c =
     let i = c.loop-past.invariant in
-    let f = past_has_due c.args.timeout c.args.clock c.loop-past.subs.items c.loop-past.moments c.loop-past.past
+    let f = past_has_due c.args.timeout c.args.clock c.loop-past.subs.items c.loop-past.waiting.moments c.loop-past.past
     c.in-Some.s i.waiting.in_flight i.past c.in-Some.is in
     let same = c.index_mut.ensures.value
     ∙ get_or_from_slice_get c.loop-past.subs.items c.in-Some.s f.0 c.index_mut.result.now f.1 in
@@ -84,7 +84,7 @@ loop-past-smaller c =
 pub loop-past-preserved : goal.loop-past-preserved
 loop-past-preserved c =
     let i = c.loop-past.invariant in
-    let f = past_has_due c.args.timeout c.args.clock c.loop-past.subs.items c.loop-past.moments c.loop-past.past
+    let f = past_has_due c.args.timeout c.args.clock c.loop-past.subs.items c.loop-past.waiting.moments c.loop-past.past
     c.in-Some.s i.waiting.in_flight i.past c.in-Some.is in
     let within = slice_get_within c.loop-past.subs.items c.in-Some.s f.0 f.1 in
     let read = c.index.ensures ∙ get_or_from_slice_get c.loop-past.subs.items c.in-Some.s f.0 c.index.result.now f.1 in
@@ -108,8 +108,8 @@ loop-past-preserved c =
         ap (due_in c.args.timeout c.args.clock) made,
         none_left c.args.timeout c.args.clock tickets f.0,
       );
-      waiting = waiting_after c.args.window c.in-Some.s c.loop-past.subs.items c.expire.new.self c.loop-past.line
-          c.loop-past.moments c.stand.new.line c.stand.new.moments i.waiting
+      waiting = waiting_after c.args.window c.in-Some.s c.loop-past.subs.items c.expire.new.self c.loop-past.waiting.line
+          c.loop-past.waiting.moments c.stand.new.self.line c.stand.new.self.moments i.waiting
           (c.stand.ensures c.expire.new.self (ap (λ l. slice_get l c.in-Some.s) c.deref.ensures.value
           ∙ set_there c.loop-past.subs.items c.in-Some.s c.expire.new.self within));
       given = all_set (λ (sub : Sub). AreGiven c.args.next c.args.latest.turn sub.lane.held) c.loop-past.subs.items
@@ -132,7 +132,7 @@ loop-past-preserved c =
 pub returns-clause-many : goal.returns-clause-many
 returns-clause-many c =
     let i = c.loop-past.invariant in
-    let none = none_past c.args.timeout c.args.clock (λ h. h.ticket) c.loop-past.subs.items c.loop-past.moments
+    let none = none_past c.args.timeout c.args.clock (λ h. h.ticket) c.loop-past.subs.items c.loop-past.waiting.moments
     c.loop-past.past i.waiting.in_flight i.past c.in_default.is in
     omega (arith, i.many, none.1)
 
@@ -140,5 +140,5 @@ pub returns-clause-subs : goal.returns-clause-subs
 returns-clause-subs c =
     let i = c.loop-past.invariant in
     let tickets : Held → Ticket = by_number (turns_from c.args.latest.front c.args.latest.turn) in
-    sym (none_past c.args.timeout c.args.clock tickets c.loop-past.subs.items c.loop-past.moments c.loop-past.past
+    sym (none_past c.args.timeout c.args.clock tickets c.loop-past.subs.items c.loop-past.waiting.moments c.loop-past.past
     i.waiting.in_flight i.past c.in_default.is).0 ∙ i.subs

@@ -12,11 +12,11 @@ invariant-loop-past l = record {
   subs : map (expired_sub l.timeout l.clock (by_number (turns_from l.latest.front l.latest.turn))) l.subs.items
       ≡ map (expired_sub l.timeout l.clock (by_number (turns_from l.latest.front l.latest.turn))) l.initial.subs.items;
   many : l.many + all_due l.timeout l.clock l.subs.items ≡ all_due l.timeout l.clock l.initial.subs.items;
-  waiting : AreWaiting l.window l.subs.items l.line l.moments;
+  waiting : AreWaiting l.window l.subs.items l.waiting.line l.waiting.moments;
   given : AllByRecursion (λ sub. AreGiven l.next l.latest.turn sub.lane.held) l.subs.items;
   drawn : AllByRecursion (λ sub. 1 ≤ due_in l.timeout l.clock sub
       → AllByRecursion (λ h. IsDrawn l.latest.front l.latest.turn h.ticket) sub.lane.held) l.subs.items;
-  past : FirstPast l.timeout l.clock l.moments l.past;
+  past : FirstPast l.timeout l.clock l.waiting.moments l.past;
 }
 
 abbrev pub decreases-loop-past : goal.decreases-loop-past

@@ -1,10 +1,8 @@
 use Rattle.rb_broker.proofs.HoldLaws.{own_step_holds}
 use Rattle.rb_broker.proofs.locked.Locked.nack.Goals as goal
 
--- what the lock says of the desk goes on, with one own step more
 pub invariant_of-self-2 : goal.invariant_of-self-2
 invariant_of-self-2 g c =
     let old = c.args.self.now in
-    own_step_holds old.desk _ old.closing c.steps_are_counted.ensures.own
-    (c.only_subscribe_and_close.ensures.nack _ _ _ _) c.in_ok-nack.ensures.1 c.count.ensures.total
-    old.fits old.fills old.closes old.all old.total old.made
+    own_step_holds old.desk _ _ c.steps_are_counted.ensures.own (c.only_subscribe_and_close.ensures.nack _ _ _ _)
+    c.in_ok-nack.ensures.1 c.count.ensures.total old.fits old.fills old.closes old.all old.total old.made

@@ -5,13 +5,11 @@ use Rattle.rb_desk.specs.declared.refusal.DeskRefusal.{DeskRefusal}
 use Rattle.rb_broker.proofs.HoldLaws.{answered, own_step_holds}
 use Rattle.rb_broker.proofs.locked.Locked.take.Goals as goal
 
--- what the lock says of the desk goes on, with one own step more
 pub invariant_of-self : goal.invariant_of-self
 invariant_of-self g c =
     let old = c.args.self.now in
-    own_step_holds old.desk _ old.closing c.steps_are_counted.ensures.own
-    (c.only_subscribe_and_close.ensures.take _ _ _ _ _) c.in-Ok.ensures.1 c.count.ensures.total
-    old.fits old.fills old.closes old.all old.total old.made
+    own_step_holds old.desk _ _ c.steps_are_counted.ensures.own (c.only_subscribe_and_close.ensures.take _ _ _ _ _)
+    c.in-Ok.ensures.1 c.count.ensures.total old.fits old.fills old.closes old.all old.total old.made
 
 -- the delivery is of its subscription
 pub returns-in-Ok-clause-of : goal.returns-in-Ok-clause-of

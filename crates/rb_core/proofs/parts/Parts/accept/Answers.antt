@@ -1,35 +1,17 @@
-use Rattle.std.proofs.Common.{ap, ◌∙◌}
-use Rattle.rb_core.specs.contracts.parts.Parts.{the_view}
-use Rattle.rb_core.specs.declared.reply.Reply.TheVariants as reply
-use Rattle.rb_core.specs.Outcome as outcome
-use Rattle.rb_subscriber.specs.Accept.{accept}
-use Rattle.rb_core.proofs.invariants.Written.{lent_end, accept_found, refused_back, done_back}
+use Rattle.rb_core.proofs.invariants.Written.{lent_end, accept_refused, accept_done}
 use Rattle.rb_core.proofs.parts.Parts.accept.Goals as goal
 
 pub returns-in-Err-Refused-clause-ok : goal.returns-in-Err-Refused-clause-ok
 returns-in-Err-Refused-clause-ok c =
-    let w = the_view c.self.inside in
-    let lent = lent_end w c.args.self.now c.args.delivery c.sub-subscription.result c.in-Some.delivery
-    c.index_mut-end.result.now c.known.result c.self.view_is c.known.ensures.value c.known.ensures.of c.in-Some.is
+    let lent = lent_end c.args.delivery c.self.view_is c.known.ensures.value c.known.ensures.of c.in-Some.is
     c.sub-subscription.ensures c.index_mut-end.ensures.value in
     rw (← c.self.view_is)
-    (refused_back w c.sub-subscription.result c.index_mut-end.result.now c.accept.new.self c.deref.result.now
-    (λ entries. accept c.index_mut-end.result.now entries c.in-Some.delivery) c.accept.result
-    c.in-Err-Refused.field-0 c.in-Err-Refused.why (outcome.accepted w c.args.delivery) lent.here
-    c.deref.ensures.value c.accept.ensures.answers c.in-Err-Refused.is c.in-Err-Refused.field-0-is
-    (λ err. accept_found w c.args.delivery c.sub-subscription.result c.in-Some.delivery
-    c.index_mut-end.result.now lent ∙ ap (outcome.accepted_by w c.sub-subscription.result) err))
+    (accept_refused c.accept.new.self lent c.deref.ensures.value c.accept.ensures.answers c.in-Err-Refused.is
+    c.in-Err-Refused.field-0-is)
 
 pub returns-clause-ok : goal.returns-clause-ok
 returns-clause-ok c =
-    let w = the_view c.self.inside in
-    let lent = lent_end w c.args.self.now c.args.delivery c.sub-subscription.result c.in-Some.delivery
-    c.index_mut-end.result.now c.known.result c.self.view_is c.known.ensures.value c.known.ensures.of c.in-Some.is
+    let lent = lent_end c.args.delivery c.self.view_is c.known.ensures.value c.known.ensures.of c.in-Some.is
     c.sub-subscription.ensures c.index_mut-end.ensures.value in
     rw (← c.self.view_is)
-    (done_back w c.sub-subscription.result c.in-Ok.cursor c.index_mut-end.result.now c.accept.new.self
-    c.deref.result.now (λ entries. accept c.index_mut-end.result.now entries c.in-Some.delivery)
-    c.accept.result (reply.Accepted c.sub-subscription.result) (outcome.accepted w c.args.delivery)
-    c.deref.ensures.value c.accept.ensures.answers c.in-Ok.is
-    (λ ok. accept_found w c.args.delivery c.sub-subscription.result c.in-Some.delivery
-    c.index_mut-end.result.now lent ∙ ap (outcome.accepted_by w c.sub-subscription.result) ok))
+    (accept_done c.accept.new.self lent c.deref.ensures.value c.accept.ensures.answers c.in-Ok.is)

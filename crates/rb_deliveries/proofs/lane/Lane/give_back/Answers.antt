@@ -2,9 +2,9 @@ use Rattle.std.proofs.Common.{arith}
 use Rattle.rb_deliveries.proofs.spans.LaneLaws.{count_rising, joins_restated}
 use Rattle.rb_deliveries.proofs.lane.Lane.give_back.Goals as goal
 
-pub give_back-requires-clause-few : goal.give_back-requires-clause-few
-give_back-requires-clause-few c = omega (arith, count_rising _ _ _ c.self.invariant, c.self.ranges)
+pub restate-requires-clause-few : goal.restate-requires-clause-few
+restate-requires-clause-few c = omega (arith, count_rising _ _ _ c.self.invariant, c.self.ranges)
 
 pub invariant_of-self : goal.invariant_of-self
 invariant_of-self c =
-    rw c.give_back.ensures (joins_restated _ _ c.args.first _ c.args.ticket _ c.self.invariant)
+    rw c.restate.ensures (joins_restated _ _ c.args.first _ c.args.ticket _ c.self.invariant)

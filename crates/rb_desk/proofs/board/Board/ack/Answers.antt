@@ -1,21 +1,16 @@
-use Rattle.std.proofs.Common.{arith, refl, subst, sym}
+use Rattle.std.proofs.Common.{refl, rules, subst, sym}
 use Rattle.rb_desk.specs.Shown.{BoardSeen, IsInFlight}
 use Rattle.rb_desk.proofs.calls.BoardLaws.{still_within}
 use Rattle.rb_desk.proofs.board.Board.ack.Goals as goal
 
 pub invariant_of-self : goal.invariant_of-self
 invariant_of-self c =
-    let t = subst (λ (b : BoardSeen). IsInFlight b.picture c.args.sub c.args.link c.args.delivery c.in_ok-span.span)
-    (sym c.self.view_is) c.in_ok-span.ensures.0 in
+    let t = subst (λ (b : BoardSeen). IsInFlight b.picture c.args.caller.sub c.args.caller.link c.args.delivery
+    c.in_ok-span.span) (sym c.self.view_is) c.in_ok-span.ensures.0 in
     rw (c.ack.ensures.new t.sub t.found) (still_within _ _ _ c.self.invariant refl refl refl)
 
 pub returns-clause-draws : goal.returns-clause-draws
 returns-clause-draws c =
-    let t = subst (λ (b : BoardSeen). IsInFlight b.picture c.args.sub c.args.link c.args.delivery c.in_ok-span.span)
-    (sym c.self.view_is) c.in_ok-span.ensures.0 in
-    rw (c.ack.ensures.new t.sub t.found, ← c.self.view_is) (record {
-      turns = omega arith;
-      links = omega arith;
-      deliveries = omega arith;
-      front = omega arith;
-    })
+    let t = subst (λ (b : BoardSeen). IsInFlight b.picture c.args.caller.sub c.args.caller.link c.args.delivery
+    c.in_ok-span.span) (sym c.self.view_is) c.in_ok-span.ensures.0 in
+    rw (c.ack.ensures.new t.sub t.found, ← c.self.view_is) (search rules)

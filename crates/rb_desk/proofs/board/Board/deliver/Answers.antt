@@ -1,4 +1,4 @@
-use Rattle.std.proofs.Common.{arith, refl, subst, sym}
+use Rattle.std.proofs.Common.{refl, rules, subst, sym}
 use Rattle.rb_deliveries.specs.Changes.{MayDeliver}
 use Rattle.rb_desk.specs.Picture.{deliveries_of}
 use Rattle.rb_desk.specs.Shown.{BoardSeen}
@@ -7,17 +7,12 @@ use Rattle.rb_desk.proofs.board.Board.deliver.Goals as goal
 
 pub invariant_of-self-2 : goal.invariant_of-self-2
 invariant_of-self-2 c =
-    let t = subst (λ (b : BoardSeen). MayDeliver (deliveries_of b.picture) c.args.sub c.args.span)
+    let t = subst (λ (b : BoardSeen). MayDeliver (deliveries_of b.picture) c.args.caller.sub c.args.span)
     (sym c.self.view_is) c.requires.may in
     rw (c.in_ok-number.ensures.ok t.sub t.found) (still_within _ _ _ c.self.invariant refl refl refl)
 
 pub returns-clause-draws : goal.returns-clause-draws
 returns-clause-draws c =
-    let t = subst (λ (b : BoardSeen). MayDeliver (deliveries_of b.picture) c.args.sub c.args.span)
+    let t = subst (λ (b : BoardSeen). MayDeliver (deliveries_of b.picture) c.args.caller.sub c.args.span)
     (sym c.self.view_is) c.requires.may in
-    rw (c.in_ok-number.ensures.ok t.sub t.found, ← c.self.view_is) (record {
-      turns = omega arith;
-      links = omega arith;
-      deliveries = omega arith;
-      front = omega arith;
-    })
+    rw (c.in_ok-number.ensures.ok t.sub t.found, ← c.self.view_is) (search rules)

@@ -1,4 +1,4 @@
-use Rattle.std.proofs.Common.{IsOk, ap, arith, subst, sym}
+use Rattle.std.proofs.Common.{ap, arith, IsOk, rules, subst, sym}
 use Rattle.rb_desk.specs.Calls.{prepare}
 use Rattle.rb_desk.specs.Shown.{BoardSeen}
 use Rattle.rb_desk.proofs.calls.BoardLaws.{placed_is}
@@ -35,9 +35,4 @@ returns-clause-picture c =
 
 pub returns-clause-draws : goal.returns-clause-draws
 returns-clause-draws c =
-    rw (c.place.ensures, ← c.self.view_is) (record {
-      turns = omega arith;
-      links = omega arith;
-      deliveries = omega arith;
-      front = omega arith;
-    })
+    rw (c.place.ensures, ← c.self.view_is) (search rules)

@@ -1,4 +1,4 @@
-use Rattle.std.proofs.Common.{arith, refl, subst, sym}
+use Rattle.std.proofs.Common.{refl, rules, subst, sym}
 use Rattle.rb_desk.specs.Shown.{BoardSeen, MayReconnect}
 use Rattle.rb_desk.proofs.calls.BoardLaws.{still_within}
 use Rattle.rb_desk.proofs.board.Board.reconnect.Goals as goal
@@ -13,9 +13,4 @@ pub returns-clause-draws : goal.returns-clause-draws
 returns-clause-draws c =
     let t = subst (λ (b : BoardSeen). MayReconnect b.picture c.args.sub c.args.cursor)
     (sym c.self.view_is) c.in_ok-to_reconnect.ensures in
-    rw (c.reconnect.ensures t.sub t.found, ← c.self.view_is) (record {
-      turns = omega arith;
-      links = omega arith;
-      deliveries = omega arith;
-      front = omega arith;
-    })
+    rw (c.reconnect.ensures t.sub t.found, ← c.self.view_is) (search rules)
