@@ -42,7 +42,7 @@ impl fmt::Display for Way {
 }
 
 impl Way {
-    // Runs the case of this name. Returns how many lines were compared, or how the first one differs.
+    // Runs the case of this name. Returns how many lines were compared, or how the first differs.
     fn run(self, rt: &HostRuntime, alloc: Global, name: &str) -> io::Result<Result<usize, String>> {
         Ok(match self {
             Way::Pieces(most) => Case::read(rt, alloc, name)?.run(alloc, most)?,

@@ -118,7 +118,8 @@ fn accept_all<L: Hall, S: Alter, R: Threads + Wait + Sync>(
 
 // How a delivery is settled after this answer to its accept, or how the subscriber ends. One whose
 // entries this thread doesn't see yet goes back. One of several entries that conflicts goes back
-// opened: those before the conflict are accepted alone. A conflict of one entry ends the subscriber.
+// opened: those before the conflict are accepted alone. A conflict of one entry ends the
+// subscriber.
 fn settling(
     accepted: Result<u64, SubscriptionError>,
     delivery: &Delivery,
