@@ -5,10 +5,10 @@
  * lets go of everything behind a handle, which stays: its other calls return BROKER_SHUT from then on.
  *
  * Results: an int is BROKER_OK, BROKER_IDLE or a negative code. An int64_t is a length, or a negative code. A call with
- * a negative code sets no output, and changes nothing, but for two cases: a stream keeps its fault until broker_reset,
- * and a refused broker_turn may have taken a changeset out of the intake, which the next one tries first. After a code
- * of -3 or less, the numbers that the code names below are what broker_why tells, until the next such code; the calls
- * that only read leave them as they are.
+ * a negative code sets no output, and changes nothing, but for three cases. broker_open sets `*why` for a bad limit or
+ * table. A stream keeps its fault until broker_reset. A refused broker_turn may have taken a changeset out of the intake,
+ * which the next one tries first. broker_why tells the two numbers of the last code of -3 or less. Calls that only read
+ * leave them as they are.
  *
  * "Refused" below lists the codes that a call may return beside BROKER_OK, BROKER_SHUT and BROKER_NO_MEMORY, without
  * their BROKER_. If several apply, the call returns the first of its list.
@@ -23,7 +23,7 @@
  * Any number and any bytes may be passed. The caller must ensure all of this, and no call checks it:
  * - A handle is one that broker_open gave out and broker_free hasn't freed. Nobody else reads or writes what it leads
  *   to.
- * - No pointer is NULL, even if its length is 0; any other address serves then. A table's two pointers are none either.
+ * - No pointer is NULL, even if its length is 0; any other address serves then. Neither of a table's two pointers is NULL.
  *   Lengths, rooms, and the sizes of arrays in bytes are below 2^63.
  * - An input has `len` bytes, or `count` tables, that nobody changes during the call. Inputs may overlap.
  * - An output is aligned, and nobody else reads or changes it during the call. It overlaps no input, no other output
@@ -94,7 +94,8 @@ enum broker_code {
     BROKER_UNKNOWN_TABLE = -20,
     /* A section has another shape than its table. Numbers: the section, from 0. */
     BROKER_SHAPE_DIFFERS = -21,
-    /* 268,435,455 steps are made; turns, subscriptions and deliveries take one each. */
+    /* 268,435,455 steps are made. A placement takes one, and so do subscribe, take, take_any, ack, nack, nack_opened,
+     * expire, reconnect, resume, unsubscribe and the first close. */
     BROKER_JOURNAL_FULL = -22,
 
     /* No subscription has this number. */

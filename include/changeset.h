@@ -139,7 +139,7 @@ struct changeset_text {
  * - CHANGESET_NONE: the first text that can't be added spells no changeset. `*fault_text` is set to its index, from 0.
  *   `*fault_at` and `*fault_kind` are set to the place and the kind of its fault, as `changeset_check` does.
  * - CHANGESET_CLASH: the first text that can't be added has a section whose table has the name of an earlier section's
- *   and another shape, in the same text or in one before it: another number of columns, or other key columns.
+ *   and another shape, in the same text or in one before it: another number of columns, or other bytes of its key.
  *   `*fault_text` is set to the text's index, from 0, and `*fault_at` to that of its first such section, from 0.
  *   `*fault_kind` does not change.
  * - CHANGESET_NO_MEMORY: memory ran out. This is also the result if the length is not below 2^63.

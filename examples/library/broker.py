@@ -1,8 +1,8 @@
 """A broker in this process, by the calls of broker.h through ctypes. A program can copy this file (docs/C.md).
 
 A call is a method of a Broker: take(0, 7) makes broker_take. It gets numbers, and bytes without their length, and returns
-what the call writes: one number, a tuple of numbers, or a text as bytes. It returns None if the call writes nothing, or
-finds nothing that is ready or waits. Each other refusal is an error. broker.h says what each number means."""
+what the call writes: one number, a tuple of numbers, or a text as bytes. It returns None if the call writes nothing, if
+nothing is ready, or if nothing waits. Each other refusal is an error. broker.h says what each number means."""
 import ctypes
 from ctypes import byref, c_int64, c_size_t, c_uint64
 
@@ -15,7 +15,7 @@ TEXTS = 'text', 'combined', 'rows', 'row'
 
 
 class Refused(Exception):
-    """A call is refused, and changed nothing: its code, what that means, and the two numbers that go with it."""
+    """A call is refused (broker.h says what that leaves): its code, what that means, and the two numbers that go with it."""
 
 
 class Table(ctypes.Structure):

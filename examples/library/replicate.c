@@ -1,7 +1,8 @@
 /* Keeps a replica of a live SQLite database up to date, through a broker in this process. A session records each
- * transaction on live.db, and the broker gets its changeset. The replica takes a delivery, applies its entries as one
- * changeset, and writes its cursor in the same transaction. Then it accepts and acknowledges. Once it stops between the
- * two, and resumes. Both files are made anew in the current folder. With the libraries installed (docs/C.md):
+ * transaction on live.db, and the broker gets its changeset. The replica takes a delivery and accepts it. Its file then
+ * applies the entries as one changeset, and stores the cursor in the same transaction. Then it acknowledges. Once it
+ * stops after the accept, and resumes. Both files are made anew in the current folder. With the libraries installed
+ * (docs/C.md):
  *
  *     gcc replicate.c $(pkg-config --cflags --libs gubzelk-broker sqlite3) -o replicate
  */
@@ -85,7 +86,7 @@ static int conflict(void *context, int kind, sqlite3_changeset_iter *change) {
     return SQLITE_CHANGESET_ABORT;
 }
 
-/* Applies the entries up to `last` that aren't in the replica yet, and moves its cursor, in one transaction. */
+/* Applies the entries up to `last` that aren't in the replica's file yet, and moves its cursor, in one transaction. */
 static void apply(uint64_t last) {
     unsigned char none, *text;
     char sql[100];
@@ -103,33 +104,34 @@ static void apply(uint64_t last) {
     cursor = last;
 }
 
-/* takes what is placed, and applies, accepts and acknowledges it */
+/* takes what is placed, and accepts, applies and acknowledges it */
 static void follow(void) {
     struct broker_delivery delivery;
     uint64_t accepted, floor = 0;
     int code;
     while ((code = broker_take(b, subscription, 0, &delivery)) == BROKER_OK) {
-        apply(delivery.last);
         ASK(broker_accept(b, delivery.number, &accepted));
+        apply(accepted);
         ASK(broker_ack(b, delivery.number, &floor));
     }
     if (code != BROKER_EMPTY) ask("broker_take", code);
     printf("all up to entry %" PRIu64 " is acknowledged\n", floor);
 }
 
-/* The replica stops after it has applied a delivery, and before the broker knows. Then it starts again. */
+/* The replica stops after the broker has accepted a delivery, and before its file has it. Then it starts again. */
 static void stop_and_resume(void) {
     struct broker_delivery delivery;
     uint64_t accepted, link;
     ASK(broker_take(b, subscription, 0, &delivery));
-    apply(delivery.last);
+    ASK(broker_accept(b, delivery.number, &accepted));
     check(replica, sqlite3_close(replica));
     puts("the replica stops");
     check(NULL, sqlite3_open("replica.db", &replica));
     cursor = number(replica, "SELECT number FROM replica_cursor");
     ASK(broker_cursor(b, subscription, &accepted));
-    ASK(broker_reconnect(b, subscription, accepted, &link));
     printf("it starts again: its file is at entry %" PRIu64 ", the broker at entry %" PRIu64 "\n", cursor, accepted);
+    apply(accepted);
+    ASK(broker_reconnect(b, subscription, accepted, &link));
 }
 
 int main(void) {

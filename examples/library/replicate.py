@@ -3,8 +3,9 @@
 
     python3 replicate.py PREFIX/lib/libgubzelk.so        packaging/install.sh makes it (docs/C.md)
 
-A session records each transaction. The replica applies a delivery and writes its cursor in one transaction. Once it
-stops before the broker knows, and resumes. It makes replica.db anew, and needs CPython over an SQLite with sessions."""
+A session records each transaction. The replica accepts a delivery, and applies it to its file with its cursor, in one
+transaction. Once it stops between the two, and resumes. It makes replica.db anew, and needs CPython over an SQLite
+with sessions."""
 import _sqlite3, ctypes, sqlite3, sys
 from broker import Broker
 from ctypes import byref, c_int, c_void_p
@@ -34,10 +35,8 @@ def publish(sql):
     broker.send(0)
     print(f'entry {broker.turn()}: {sql}')
 
-def take():
-    """Takes a delivery, and applies what the replica lacks of it, with its cursor. Returns its number, or None."""
-    if not (delivery := broker.take(0, 0)): return None
-    number, _, _, last = delivery
+def apply(last):
+    """Applies the entries up to `last` that aren't in the file yet, and moves its cursor, in one transaction."""
     [cursor] = replica.execute('SELECT number FROM replica_cursor').fetchone()
     if cursor < last:
         text = broker.combined(cursor + 1, last)
@@ -45,11 +44,12 @@ def take():
             replica.execute('UPDATE replica_cursor SET number = ?', [last])
             check(sqlite.sqlite3changeset_apply(handle(replica), len(text), text, None, abort, None))
         print(f'the replica applies entries {cursor + 1} to {last}')
-    return number
 
 def follow():
-    while number := take():
-        broker.accept(number)
+    """Takes what is placed, and accepts, applies and acknowledges it."""
+    while delivery := broker.take(0, 0):
+        number = delivery[0]
+        apply(broker.accept(number))
         broker.ack(number)
 
 open('replica.db', 'w').close()
@@ -63,10 +63,12 @@ publish("INSERT INTO item VALUES (1, 'lamp', 120), (2, 'chair', 80)")
 publish('UPDATE item SET price = price + 5')
 follow()
 publish('DELETE FROM item WHERE id = 2')
-take()
+number, *_ = broker.take(0, 0)
+broker.accept(number)
 replica.close()
 print('the replica stops, and starts again')
 replica = sqlite3.connect('replica.db')
+apply(broker.cursor(0))
 broker.reconnect(0, broker.cursor(0))
 publish("INSERT INTO item VALUES (3, 'table', NULL)")
 follow()

@@ -33,7 +33,7 @@ pub record Served (result : ℤ) (event : Event) (before after : Handle) (Output
 pub record Starved (event : Event) (before after : Handle) (Same : Type 0) : Type 0 where
   pub world : State
   pub held : HoldsWorld before world
-  pub may : MayRunOut event (outcome world event).0
+  pub may : MayRunOut world event (outcome world event).0
   pub holds : HoldsWorld after world
   pub why : after.why ≡ before.why
   pub same : Same

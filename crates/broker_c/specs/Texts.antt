@@ -49,13 +49,14 @@ ReadsText result n before after was is =
 
 -- ---- the text of several entries as one changeset
 
--- The same of a changeset, or -16 if there is none; or -2 if memory ran out.
+-- The same of a changeset, or -16 if there is none; or -2 if memory ran out for one.
 abbrev pub IsCombinedOf : ℤ → Option (List Section) → List ℕ → List ℕ → Type 0
 IsCombinedOf (pos n) None was is = ⊥
 IsCombinedOf (pos n) (Some made) was is = (n ≡ length (text_of made))
     × (is ≡ given (text_of made) was)
 IsCombinedOf (negsuc zero) made was is = ⊥
-IsCombinedOf (negsuc (suc zero)) made was is = is ≡ was
+IsCombinedOf (negsuc (suc zero)) None was is = ⊥
+IsCombinedOf (negsuc (suc zero)) (Some made) was is = is ≡ was
 IsCombinedOf (negsuc (suc (suc n))) None was is = (n ≡ 13) × (is ≡ was)
 IsCombinedOf (negsuc (suc (suc n))) (Some made) was is = ⊥
 

@@ -86,7 +86,7 @@ impl Handle {
         ensures why { IfOk result (λ reply. self.new.why ≡ codes.numbers_after reply self.old.why) }
         ensures err { OnErr result (self.new.seal.held ≡ self.old.seal.held) }
         ensures same_why { OnErr result (self.new.why ≡ self.old.why) }
-        ensures memory { OnErr result (MayRunOut event.now
+        ensures memory { OnErr result (MayRunOut self.old.seal.held event.now
             (outcome self.old.seal.held event.now).0) }
     {
         let why = self.why;

@@ -51,7 +51,7 @@ fn entry_into(world: &World, number: u64, out: &mut [u8]) -> i64
 
 /// The canonical text of the entries numbered `first` to `last` as one changeset. Returns its
 /// length, and writes it to the front of `out` if there is room for it. Returns -16 unless 1 <=
-/// `first` <= `last` and `last` is placed, and -2 if memory runs out.
+/// `first` <= `last` and `last` is placed. Otherwise returns -2 if memory runs out.
 #[unsafe(no_mangle)]
 pub extern "C" fn broker_combined(
     alloc: Global,

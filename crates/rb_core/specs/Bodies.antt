@@ -1,4 +1,4 @@
--- The changesets in a world: what is staged, what waits, what is in hand and what is placed.
+-- The changesets in a world: what is staged and sent, waits, is in hand and is placed.
 use Rattle.std.specs.Prelude.{List, Option, IfSome}
 use Rattle.std.specs.List.{AllByRecursion}
 use Rattle.cs_model.specs.Bytes.{AreBytes}
@@ -13,16 +13,17 @@ use Rattle.rb_core.specs.World.{Sender, World}
 abbrev pub IsStagedBody : Staged → Type 0
 IsStagedBody staged = IsChangeset staged.body
 
--- the bytes fed to a publisher are bytes, and what it staged is a changeset
-pub record IsSound (sender : Sender) : Type 0 where
-  pub bytes : AreBytes sender.text
-  pub staged : IfSome sender.staged IsStagedBody
-
 -- what was sent is a changeset
 abbrev pub IsBody : Item → Type 0
 IsBody item = IsChangeset item.body
 
--- Everything that is staged, waits in the intake, is in hand or is placed is a changeset.
+-- the bytes fed to a publisher are bytes, and what it staged and what it sent are changesets
+pub record IsSound (sender : Sender) : Type 0 where
+  pub bytes : AreBytes sender.text
+  pub staged : IfSome sender.staged IsStagedBody
+  pub sent : AllByRecursion IsBody sender.sent
+
+-- Everything that is staged or sent, waits in the intake, is in hand or is placed is a changeset.
 pub record BodiesIn (publishers : List Sender) (waiting : List Item) (pulled : Option Item)
     (placed : List Entry) : Type 0 where
   pub senders : AllByRecursion IsSound publishers

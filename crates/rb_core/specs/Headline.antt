@@ -9,7 +9,7 @@ use Rattle.rb_subscriber.specs.Accept.{HasSingleTables}
 use Rattle.rb_subscriber.specs.Endpoint.{Endpoint}
 use Rattle.rb_core.specs.declared.event.Event.{Event}
 use Rattle.rb_core.specs.declared.publisher.PublisherState.{PublisherState}
-use Rattle.rb_core.specs.Moves.{HasRun, IsFront, IsSending, StaysClosed, items_of}
+use Rattle.rb_core.specs.Moves.{AreAllOf, HasRun, IsFront, IsSending, StaysClosed, items_of}
 use Rattle.rb_core.specs.Run.{Answer}
 use Rattle.rb_core.specs.State.{State, empty_tables}
 use Rattle.rb_core.specs.Told.{Paired, world_told}
@@ -24,8 +24,9 @@ HasTakenFed publisher sender = Took publisher.stream sender.text
 -- cursor is the last number that the subscription accepted. Where what a subscription accepted
 -- applies singly, without conflict, to empty tables, the tables of its endpoint are what one thread
 -- gets that applies it so.
--- Each publisher's entries are the front of what it sent, in that order; each sending is placed
--- once; each entry is a sending. Each publisher's stream has taken what the publisher was fed.
+-- Each publisher's entries are the front of what it sent, in that order, and the rest is in hand or
+-- in the intake; each sending is placed once; each entry is a sending. Each publisher's stream has
+-- taken what the publisher was fed.
 -- Nothing is placed once the first n events have closed the sequence, and nothing accepted once
 -- they have closed a subscription.
 pub record KeepsHeadline (schema : List Shape) (events : List Event) (answers : List Answer)
@@ -42,6 +43,9 @@ pub record KeepsHeadline (schema : List Shape) (events : List Event) (answers : 
   pub in_order : (p : ℕ) (sender : Sender)
       → slice_get (world_told schema events answers).senders p ≡ Some sender
       → IsFront (own_of p (items_of new.sequence)) sender.sent
+  pub kept : (p : ℕ) (sender : Sender)
+      → slice_get (world_told schema events answers).senders p ≡ Some sender
+      → AreAllOf p new.sequence new.hand new.intake sender
   pub once : (i j : ℕ) (a b : Entry) → slice_get new.sequence i ≡ Some a
       → slice_get new.sequence j ≡ Some b → a.item.publisher ≡ b.item.publisher
       → a.item.own ≡ b.item.own → i ≡ j

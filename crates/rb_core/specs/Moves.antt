@@ -11,6 +11,7 @@ use Rattle.cs_invert.specs.Inverse.{withdrawal_of}
 use Rattle.rb_desk.specs.declared.delivery.Delivery.{Delivery}
 use Rattle.rb_sequence.specs.declared.item.Item.{Item}
 use Rattle.rb_sequence.specs.Entry.{Entry}
+use Rattle.rb_sequence.specs.Items.{own_of}
 use Rattle.rb_subscriber.specs.Accept.{part, brought, AcceptsDelivery}
 use Rattle.rb_subscriber.specs.Endpoint.{Endpoint}
 use Rattle.rb_core.specs.declared.publisher.Staged.{Staged}
@@ -247,6 +248,17 @@ items_of entries = map (λ entry. entry.item) entries
 -- an item is a publisher's sending: what it sent under the item's own number, which counts from 1
 abbrev pub IsSending : Sender → Item → Type 0
 IsSending sender item = (n : ℕ) × (item.own ≡ suc n) × (slice_get sender.sent n ≡ Some item)
+
+-- what is sent and not placed, in the order in which it goes on: the item in hand, then the intake
+abbrev pub unplaced : Option Item → List Item → List Item
+unplaced None intake = intake
+unplaced (Some item) intake = item ∷ intake
+
+-- A publisher's entries, and then those of its items that aren't placed, are what it sent, in
+-- sending order: none is missing, changed or there twice.
+abbrev pub AreAllOf : ℕ → List Entry → Option Item → List Item → Sender → Type 0
+AreAllOf p sequence hand intake sender =
+    own_of p (items_of sequence) ++ own_of p (unplaced hand intake) ≡ sender.sent
 
 -- a list is a prefix of another
 abbrev pub IsFront : {A : Type 0} → List A → List A → Type 0

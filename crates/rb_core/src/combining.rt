@@ -1,6 +1,6 @@
 //! The changesets of placed entries as one.
 
-ghost use Rattle.std.specs.Prelude.{◌≡◌, List, IfOk, IfSome};
+ghost use Rattle.std.specs.Prelude.{◌≡◌, List, IfOk, IfSome, IsSome, OnErr};
 ghost use Rattle.std.specs.List.{AllByRecursion};
 ghost use Rattle.cs_model.specs.declared.shape.Shape.{Shape};
 ghost use Rattle.std.specs.Option.{option_map};
@@ -15,15 +15,16 @@ use std::alloc::{AllocError, Global};
 
 impl World {
     /// The changesets of the entries numbered `first` to `last` as one ("The Session Extension",
-    /// changegroups). Returns `None` unless 1 <= `first` <= `last` and `last` is placed. Returns
-    /// `AllocError` if memory runs out.
+    /// changegroups). Returns `None` unless 1 <= `first` <= `last` and `last` is placed. Otherwise
+    /// returns `AllocError` if memory runs out.
     pub fn combined(
         &self,
         alloc: Global,
         first: u64,
         last: u64,
     ) -> Result<Option<Changeset>, AllocError>
-        ensures { IfOk result (λ made. made ≡ combined_of self.now first last) }
+        ensures made { IfOk result (λ made. made ≡ combined_of self.now first last) }
+        ensures memory { OnErr result (IsSome (combined_of self.now first last)) }
     {
         match span(self.sequence(), first, last) {
             None => Ok(None),

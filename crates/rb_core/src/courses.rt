@@ -6,7 +6,7 @@ ghost use Rattle.std.specs.Prelude.{◌≡◌, ◌≤◌, ℕ, true, length, Lis
 ghost use Rattle.cs_apply.specs.Columns.{HaveColumns};
 ghost use Rattle.rb_core.specs.Moves.{Leads, HasRun, StaysClosed, items_of, IsFront};
 ghost use Rattle.rb_sequence.specs.Items.{own_of};
-ghost use Rattle.rb_core.specs.Moves.{IsSending};
+ghost use Rattle.rb_core.specs.Moves.{AreAllOf, IsSending};
 ghost use Rattle.rb_core.specs.World.{Sender, Subscriber, World, world_begun};
 ghost use Rattle.rb_sequence.specs.Entry.{Entry};
 ghost use Rattle.rb_subscriber.specs.Accept.{AreChangesets, HasSingleTables};
@@ -37,12 +37,16 @@ pub fn nothing_after_close()
 {}
 
 /// After any moves from the start, a publisher's entries in the sequence are a prefix of what it
-/// sent, in that order. No two entries have the same publisher and own number, so each sending is
-/// placed once. Each entry is a sending of a publisher that was added.
+/// sent, in that order, and the rest is in hand or in the intake. No two entries have the same
+/// publisher and own number, so each sending is placed once. Each entry is a sending of a publisher
+/// that was added.
 pub fn sendings_come_once_in_order()
     ensures order { (mids : List World) (new : World) (p : ℕ) (sender : Sender)
         → Leads world_begun mids new → slice_get new.senders p ≡ Some sender
         → IsFront (own_of p (items_of new.sequence)) sender.sent }
+    ensures kept { (mids : List World) (new : World) (p : ℕ) (sender : Sender)
+        → Leads world_begun mids new → slice_get new.senders p ≡ Some sender
+        → AreAllOf p new.sequence new.hand new.intake sender }
     ensures once { (mids : List World) (new : World) (i j : ℕ) (a b : Entry)
         → Leads world_begun mids new → slice_get new.sequence i ≡ Some a
         → slice_get new.sequence j ≡ Some b → a.item.publisher ≡ b.item.publisher

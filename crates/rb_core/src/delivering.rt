@@ -40,7 +40,7 @@ impl Parts {
         requires { IsWorld self.old }
         ensures ok { IfOk result (λ reply. outcome.accepted self.old delivery ≡ (reply, self.new)) }
         ensures err { OnErr result (self.new ≡ self.old) }
-        ensures memory { OnErr result (MayRunOut (event.Accept delivery)
+        ensures memory { OnErr result (MayRunOut self.old (event.Accept delivery)
             (outcome.accepted self.old delivery).0) }
     {
         let Some(delivery) = self.known(delivery) else {
@@ -70,7 +70,7 @@ impl Parts {
         ensures ok { IfOk result (λ reply.
             outcome.crashed self.old delivery kept ≡ (reply, self.new)) }
         ensures err { OnErr result (self.new ≡ self.old) }
-        ensures memory { OnErr result (MayRunOut (event.Crash delivery kept)
+        ensures memory { OnErr result (MayRunOut self.old (event.Crash delivery kept)
             (outcome.crashed self.old delivery kept).0) }
     {
         let Some(delivery) = self.known(delivery) else {
@@ -131,7 +131,7 @@ impl Parts {
         ensures ok { IfOk result (λ reply.
             outcome.nacked_opened self.old delivery ≡ (reply, self.new)) }
         ensures err { OnErr result (self.new ≡ self.old) }
-        ensures memory { OnErr result (MayRunOut (event.NackOpened delivery)
+        ensures memory { OnErr result (MayRunOut self.old (event.NackOpened delivery)
             (outcome.nacked_opened self.old delivery).0) }
     {
         let Some(delivery) = self.known(delivery) else {
@@ -145,7 +145,7 @@ impl Parts {
         ensures ok { IfOk result (λ reply.
             opened_for self.old (Some delivery) ≡ (reply, self.new)) }
         ensures err { OnErr result (self.new ≡ self.old) }
-        ensures memory { OnErr result ((d : ℕ) → MayRunOut (event.NackOpened d)
+        ensures memory { OnErr result ((d : ℕ) → MayRunOut self.old (event.NackOpened d)
             (opened_for self.old (Some delivery)).0) }
     {
         match self

@@ -19,7 +19,7 @@ ghost use Rattle.rb_core.specs.Bodies.{HasChangesets};
 ghost use Rattle.rb_core.specs.Headline.{HasTakenFed, KeepsHeadline};
 ghost use Rattle.rb_core.specs.Moves.{Leads, HasRun, StaysClosed, items_of, IsFront};
 ghost use Rattle.rb_sequence.specs.Items.{own_of};
-ghost use Rattle.rb_core.specs.Moves.{IsSending};
+ghost use Rattle.rb_core.specs.Moves.{AreAllOf, IsSending};
 ghost use Rattle.rb_core.specs.Outcome.{outcome, delivery_of};
 ghost use Rattle.rb_core.specs.Run.{Answer, IsRunOf, RunsOn};
 ghost use Rattle.rb_core.specs.State.{State, IsWorld, empty_tables};
@@ -143,14 +143,19 @@ pub fn accepted_is_gapless()
 }
 
 /// At any time of any run, a publisher's entries in the sequence are a prefix of what it sent, in
-/// that order. No two entries have the same publisher and own number, so each sending is placed
-/// once.
+/// that order. The rest of what it sent is in the broker's hand or its intake. No two entries have
+/// the same publisher and own number, so each sending is placed once.
 pub fn sendings_come_once_in_order()
     ensures order { (limits : Limits) (schema : List Shape) (events : List Event)
         (answers : List Answer) (new : State) (p : ℕ) (sender : Sender)
         → IsRunOf limits schema events answers new
         → slice_get (world_told schema events answers).senders p ≡ Some sender
         → IsFront (own_of p (items_of new.sequence)) sender.sent }
+    ensures kept { (limits : Limits) (schema : List Shape) (events : List Event)
+        (answers : List Answer) (new : State) (p : ℕ) (sender : Sender)
+        → IsRunOf limits schema events answers new
+        → slice_get (world_told schema events answers).senders p ≡ Some sender
+        → AreAllOf p new.sequence new.hand new.intake sender }
     ensures once { (limits : Limits) (schema : List Shape) (events : List Event)
         (answers : List Answer) (new : State) (i j : ℕ) (a b : Entry)
         → IsRunOf limits schema events answers new

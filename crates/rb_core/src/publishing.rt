@@ -28,7 +28,7 @@ impl Parts {
     pub(crate) fn publisher(&mut self, alloc: Global) -> Result<Reply, AllocError>
         ensures ok { IfOk result (λ reply. outcome.publisher_added self.old ≡ (reply, self.new)) }
         ensures err { OnErr result (self.new ≡ self.old) }
-        ensures memory { OnErr result (MayRunOut event.Publisher
+        ensures memory { OnErr result (MayRunOut self.old event.Publisher
             (outcome.publisher_added self.old).0) }
     {
         if self.publishers.len() >= MOST_PUBLISHERS {
@@ -54,7 +54,7 @@ impl Parts {
         ensures ok { IfOk result (λ reply.
             outcome.fed self.old publisher bytes.now ≡ (reply, self.new)) }
         ensures err { OnErr result (self.new ≡ self.old) }
-        ensures memory { OnErr result (MayRunOut (event.Feed publisher bytes.now)
+        ensures memory { OnErr result (MayRunOut self.old (event.Feed publisher bytes.now)
             (outcome.fed self.old publisher bytes.now).0) }
     {
         let p = publisher as usize;
@@ -110,7 +110,7 @@ impl Parts {
     pub(crate) fn send(&mut self, publisher: u64) -> Result<Reply, AllocError>
         ensures ok { IfOk result (λ reply. outcome.sent self.old publisher ≡ (reply, self.new)) }
         ensures err { OnErr result (self.new ≡ self.old) }
-        ensures memory { OnErr result (MayRunOut (event.Send publisher)
+        ensures memory { OnErr result (MayRunOut self.old (event.Send publisher)
             (outcome.sent self.old publisher).0) }
     {
         let p = publisher as usize;

@@ -96,8 +96,8 @@ pub enum BrokerRefusal {
     /// `Resume`: the subscription hasn't fallen.
     #[error("the subscription has not fallen")]
     NotFallen,
-    /// `Turn`, `Subscribe`, `Take`, `TakeAny`, `Ack`, `Nack`, `NackOpened`, `Reconnect`, `Resume`,
-    /// `Unsubscribe`: the desk refuses the call.
+    /// `Turn`, `Subscribe`, `Take`, `TakeAny`, `Ack`, `Nack`, `NackOpened`, `Expire`, `Reconnect`,
+    /// `Resume`, `Unsubscribe`: the desk refuses the call.
     #[error(transparent)]
     Desk(DeskRefusal),
     /// `Accept`, `Crash`: the subscription's endpoint refuses the delivery.

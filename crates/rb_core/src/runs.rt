@@ -6,7 +6,7 @@ ghost use Rattle.cs_model.specs.Bytes.{AreBytes};
 ghost use Rattle.rb_core.specs.Headline.{HasTakenFed};
 ghost use Rattle.rb_core.specs.Moves.{HasRun, StaysClosed, items_of};
 ghost use Rattle.rb_sequence.specs.Items.{own_of};
-ghost use Rattle.rb_core.specs.Moves.{IsFront, IsSending};
+ghost use Rattle.rb_core.specs.Moves.{AreAllOf, IsFront, IsSending};
 ghost use Rattle.rb_core.specs.Run.{Run, FeedsBytes};
 ghost use Rattle.rb_core.specs.State.{empty_tables, empty_world};
 ghost use Rattle.rb_core.specs.Told.{Paired, world_told};
@@ -51,6 +51,10 @@ pub fn run(
     ensures in_order { IfOk result (λ r. (p : ℕ) (sender : Sender)
         → slice_get (world_told schema events.now r.1.items).senders p ≡ Some sender
         → IsFront (own_of p (items_of r.0.sequence)) sender.sent) }
+    // The rest of what it sent is in hand or in the intake.
+    ensures kept { IfOk result (λ r. (p : ℕ) (sender : Sender)
+        → slice_get (world_told schema events.now r.1.items).senders p ≡ Some sender
+        → AreAllOf p r.0.sequence r.0.hand r.0.intake sender) }
     // No sending is in the sequence twice.
     ensures once { IfOk result (λ r. (i j : ℕ) (a b : Entry) → slice_get r.0.sequence i ≡ Some a
         → slice_get r.0.sequence j ≡ Some b → a.item.publisher ≡ b.item.publisher

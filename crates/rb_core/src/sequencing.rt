@@ -21,7 +21,7 @@ impl Parts {
     pub(crate) fn turn(&mut self, alloc: Global) -> Result<Reply, AllocError>
         ensures ok { IfOk result (λ reply. outcome.turned self.old ≡ (reply, self.new)) }
         ensures err { OnErr result (self.new ≡ self.old) }
-        ensures memory { OnErr result (MayRunOut event.Turn (outcome.turned self.old).0) }
+        ensures memory { OnErr result (MayRunOut self.old event.Turn (outcome.turned self.old).0) }
     {
         let Some(item) = self.next_item() else {
             return Ok(Reply::Idle);

@@ -22,7 +22,7 @@ impl Parts {
     pub(crate) fn subscribe(&mut self, alloc: Global, start: u64) -> Result<Reply, AllocError>
         ensures ok { IfOk result (λ reply. outcome.subscribed self.old start ≡ (reply, self.new)) }
         ensures err { OnErr result (self.new ≡ self.old) }
-        ensures memory { OnErr result (MayRunOut (event.Subscribe start)
+        ensures memory { OnErr result (MayRunOut self.old (event.Subscribe start)
             (outcome.subscribed self.old start).0) }
     {
         if let Some(why) = self.desk.refuses_subscribe(start) {
@@ -46,7 +46,7 @@ impl Parts {
         ensures ok { IfOk result (λ reply. outcome.delivered self.old subscription now
             ≡ (reply, self.new)) }
         ensures err { OnErr result (self.new ≡ self.old) }
-        ensures memory { OnErr result (MayRunOut (event.Take subscription now)
+        ensures memory { OnErr result (MayRunOut self.old (event.Take subscription now)
             (outcome.delivered self.old subscription now).0) }
     {
         let Some(end) = self.endpoints.get(subscription as usize) else {
@@ -75,7 +75,7 @@ impl Parts {
     pub(crate) fn take_any(&mut self, now: u64) -> Result<Reply, AllocError>
         ensures ok { IfOk result (λ reply. outcome.delivered_any self.old now ≡ (reply, self.new)) }
         ensures err { OnErr result (self.new ≡ self.old) }
-        ensures memory { OnErr result (MayRunOut (event.TakeAny now)
+        ensures memory { OnErr result (MayRunOut self.old (event.TakeAny now)
             (outcome.delivered_any self.old now).0) }
     {
         if self.deliveries.reserve(1).is_err() {

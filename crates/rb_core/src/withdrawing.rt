@@ -35,7 +35,7 @@ impl Parts {
         ensures ok { IfOk result (λ reply.
             outcome.withdrawn self.old publisher number ≡ (reply, self.new)) }
         ensures err { OnErr result (self.new ≡ self.old) }
-        ensures memory { OnErr result (MayRunOut (event.Withdraw publisher number)
+        ensures memory { OnErr result (MayRunOut self.old (event.Withdraw publisher number)
             (outcome.withdrawn self.old publisher number).0) }
     {
         let p = publisher as usize;

@@ -1,6 +1,7 @@
 //! `World`, the public interface of the crate: events go in, replies come out.
 
-ghost use Rattle.std.specs.Prelude.{◌≡◌, ◌+◌, length, IfOk, OnErr, MatchOption, slice_get, Option};
+ghost use Rattle.std.specs.Prelude.{◌≡◌, ◌+◌, length, IfOk, IsSome, OnErr, MatchOption, slice_get};
+ghost use Rattle.std.specs.Prelude.{Option};
 ghost use Rattle.std.specs.List.{AllByRecursion};
 ghost use Rattle.std.specs.Option.{option_map, option_copied};
 ghost use Rattle.std.specs.FinMap as map;
@@ -56,11 +57,12 @@ impl World {
 
     /// Applies one event to the world and returns the reply; a refusal is a reply. Returns
     /// `AllocError` if memory runs out, and does not change the world then. Memory never runs out
-    /// for a refused event, unless a delivery is refused for a conflict.
+    /// for a refused event, unless a delivery is refused for a conflict, nor for a piece of a
+    /// stream that has its fault.
     pub fn step(&mut self, alloc: Global, event: Event) -> Result<Reply, AllocError>
         ensures ok { IfOk result (λ reply. outcome self.old event ≡ (reply, self.new)) }
         ensures err { OnErr result (self.new ≡ self.old) }
-        ensures memory { OnErr result (MayRunOut event (outcome self.old event).0) }
+        ensures memory { OnErr result (MayRunOut self.old event (outcome self.old event).0) }
     {
         self.serve(alloc, &event)
     }
@@ -69,7 +71,8 @@ impl World {
     pub fn serve(&mut self, alloc: Global, event: &Event) -> Result<Reply, AllocError>
         ensures ok { IfOk result (λ reply. outcome self.old event.now ≡ (reply, self.new)) }
         ensures err { OnErr result (self.new ≡ self.old) }
-        ensures memory { OnErr result (MayRunOut event.now (outcome self.old event.now).0) }
+        ensures memory { OnErr result (MayRunOut self.old event.now
+            (outcome self.old event.now).0) }
     {
         events_keep_worlds();
         self.parts.moved_by(alloc, event)
@@ -128,15 +131,17 @@ impl World {
     }
 
     /// The rows of a subscription with their keys, sorted by table, then by the key's bytes.
-    /// Returns `None` if there is no such subscription. Returns `AllocError` if memory runs out.
+    /// Returns `None` if there is no such subscription, and otherwise `AllocError` if memory runs
+    /// out.
     pub fn rows(
         &self,
         alloc: Global,
         subscription: u64,
     ) -> Result<Option<Vec<(&RowKey, &Row)>>, AllocError>
-        ensures { IfOk result (λ rows. option_map (λ v. listed v.items) rows
+        ensures rows { IfOk result (λ rows. option_map (λ v. listed v.items) rows
             ≡ option_map (λ end. map.entries end.tables.rows)
             (slice_get self.now.endpoints subscription)) }
+        ensures memory { OnErr result (IsSome (slice_get self.now.endpoints subscription)) }
     {
         match self.tables(subscription) {
             None => Ok(None),
@@ -163,7 +168,8 @@ impl Parts {
         requires { IsWorld self.old }
         ensures ok { IfOk result (λ reply. outcome self.old event.now ≡ (reply, self.new)) }
         ensures err { OnErr result (self.new ≡ self.old) }
-        ensures memory { OnErr result (MayRunOut event.now (outcome self.old event.now).0) }
+        ensures memory { OnErr result (MayRunOut self.old event.now
+            (outcome self.old event.now).0) }
     {
         match event {
             Event::Publisher => self.publisher(alloc),

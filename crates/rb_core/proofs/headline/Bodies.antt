@@ -54,11 +54,12 @@ sender_sound old p change (Some sender) e sound h = record {
   sequence = h.sequence;
 }
 
-staged_sent : (old : World) (p own : ℕ) (sender : Sender) (staged : Option Staged) → AreBytes sender.text
+staged_sent : (old : World) (p own : ℕ) (sender : Sender) (staged : Option Staged) → IsSound sender
     → IfSome staged IsStagedBody → HasChangesets old → HasChangesets (say.sent_staged old p own sender staged)
-staged_sent old p own sender None bytes valid h = h
-staged_sent old p own sender (Some staged) bytes valid h = record {
-  senders = all_set IsSound old.senders p _ h.senders (record { bytes = bytes; staged = tt });
+staged_sent old p own sender None sound valid h = h
+staged_sent old p own sender (Some staged) sound valid h = record {
+  senders = all_set IsSound old.senders p _ h.senders
+      (record { bytes = sound.bytes; staged = tt; sent = all_push IsBody sender.sent _ sound.sent valid });
   intake = all_push IsBody old.intake _ h.intake valid;
   hand = h.hand;
   sequence = h.sequence;
@@ -69,7 +70,7 @@ sent_sound : (old : World) (p own : ℕ) (found : Option Sender) → slice_get o
 sent_sound old p own None e h = h
 sent_sound old p own (Some sender) e h =
     let sound = all_get IsSound old.senders p sender h.senders e in
-    staged_sent old p own sender sender.staged sound.bytes sound.staged h
+    staged_sent old p own sender sender.staged sound sound.staged h
 
 -- the withdrawal of a changeset is one
 withdrawal_is_changeset : (body : List Section) → IsChangeset body → IsChangeset (withdrawal_of body)
@@ -81,7 +82,11 @@ entry_withdrawn : (old : World) (p number : ℕ) (sender : Sender) (entry : Opti
 entry_withdrawn old p number sender None sound body h = h
 entry_withdrawn old p number sender (Some entry) sound body h = record {
   senders = all_set IsSound old.senders p _ h.senders
-      (record { bytes = sound.bytes; staged = withdrawal_is_changeset entry.item.body body });
+      (record {
+        bytes = sound.bytes;
+        staged = withdrawal_is_changeset entry.item.body body;
+        sent = sound.sent;
+      });
   intake = h.intake;
   hand = h.hand;
   sequence = h.sequence;
@@ -131,24 +136,33 @@ subscriber_sound old s change (Some subscriber) h = h
 told_sound : ReadingSpells → (schema : List Shape) (old : World) (event : Event) (given : Reply) → FeedsBytes event
     → HasChangesets old → HasChangesets (told schema old event given)
 told_sound spells schema old event.Publisher (reply.Publisher p) feeds h = record {
-  senders = all_push IsSound old.senders _ h.senders (record { bytes = tell_publishers_no_bytes; staged = tt });
+  senders = all_push IsSound old.senders _ h.senders (record { bytes = tell_publishers_no_bytes; staged = tt; sent = tt });
   intake = h.intake;
   hand = h.hand;
   sequence = h.sequence;
 }
 told_sound spells schema old (event.Feed p bytes) reply.Fed feeds h =
     sender_sound old p (say.fed bytes) (slice_get old.senders p) refl
-    (λ sender is. record { bytes = more_bytes sender.text bytes is.bytes feeds; staged = is.staged }) h
+    (λ sender is. record {
+      bytes = more_bytes sender.text bytes is.bytes feeds;
+      staged = is.staged;
+      sent = is.sent;
+    }) h
 told_sound spells schema old (event.Feed p bytes) (reply.Fault fault) feeds h =
     sender_sound old p (say.fed bytes) (slice_get old.senders p) refl
-    (λ sender is. record { bytes = more_bytes sender.text bytes is.bytes feeds; staged = is.staged }) h
+    (λ sender is. record {
+      bytes = more_bytes sender.text bytes is.bytes feeds;
+      staged = is.staged;
+      sent = is.sent;
+    }) h
 told_sound spells schema old (event.Reset p) reply.Reset feeds h =
     sender_sound old p say.reset (slice_get old.senders p) refl
-    (λ sender is. record { bytes = tell_publishers_no_bytes; staged = is.staged }) h
+    (λ sender is. record { bytes = tell_publishers_no_bytes; staged = is.staged; sent = is.sent }) h
 told_sound spells schema old (event.End p) reply.Staged feeds h =
     sender_sound old p say.ended (slice_get old.senders p) refl (λ sender is. record {
       bytes = tell_publishers_no_bytes;
       staged = staged_valid spells sender.text (answer_of sender.text) is.bytes refl;
+      sent = is.sent;
     }) h
 told_sound spells schema old (event.Send p) (reply.Sent own) feeds h =
     sent_sound old p own (slice_get old.senders p) refl h

@@ -11,7 +11,7 @@ use Rattle.rb_sequence.specs.Entry.{Entry}
 use Rattle.rb_core.specs.World.{Sender, World, world_begun}
 use Rattle.rb_core.specs.Moves.{Leads, items_of}
 use Rattle.rb_sequence.specs.Items.{own_of}
-use Rattle.rb_core.specs.Moves.{IsFront, IsIn, IsSending}
+use Rattle.rb_core.specs.Moves.{AreAllOf, IsFront, IsIn, IsSending, unplaced}
 use Rattle.rb_core.proofs.headline.Moving.{MovingKeeps, crash_leaves, kept_through}
 
 -- ---- numbers
@@ -36,6 +36,10 @@ numbered_front n (item ∷ items) more all = (all.0, numbered_front (suc n) item
 abbrev sendings_held : Option Item → List Item
 sendings_held None = []
 sendings_held (Some item) = item ∷ []
+
+held_then_intake : (hand : Option Item) (intake : List Item) → sendings_held hand ++ intake ≡ unplaced hand intake
+held_then_intake None intake = refl
+held_then_intake (Some item) intake = refl
 
 abbrev flow : World → List Item
 flow world = items_of world.sequence ++ (sendings_held world.hand ++ world.intake)
@@ -179,12 +183,18 @@ own_parts p world = filter-append (λ (i : Item). i.publisher == p) (items_of wo
 sent_through : (p : ℕ) (mids : List World) (new : World) → Leads world_begun mids new → SendingsSent p new
 sent_through p mids new leads = kept_through (SendingsSent p) (sent_kept p) world_begun mids new leads refl
 
+pub all_are_sendings : (mids : List World) (new : World) (p : ℕ) (q : Sender) → Leads world_begun mids new
+    → slice_get new.senders p ≡ Some q → AreAllOf p new.sequence new.hand new.intake q
+all_are_sendings mids new p q leads found =
+    let h : SendingsHolds (Some q) (own_of p (flow new)) =
+    subst (λ o. SendingsHolds o (own_of p (flow new))) found (sent_through p mids new leads) in
+    ap (λ xs. own_of p (items_of new.sequence) ++ own_of p xs) (sym (held_then_intake new.hand new.intake))
+    ∙ sym (own_parts p new) ∙ h.0
+
 pub in_order : (mids : List World) (new : World) (p : ℕ) (q : Sender) → Leads world_begun mids new
     → slice_get new.senders p ≡ Some q → IsFront (own_of p (items_of new.sequence)) q.sent
 in_order mids new p q leads found =
-    let h : SendingsHolds (Some q) (own_of p (flow new)) =
-    subst (λ o. SendingsHolds o (own_of p (flow new))) found (sent_through p mids new leads) in
-    (own_of p (sendings_waiting new), sym (own_parts p new) ∙ h.0)
+    (own_of p (unplaced new.hand new.intake), all_are_sendings mids new p q leads found)
 
 -- ---- once
 

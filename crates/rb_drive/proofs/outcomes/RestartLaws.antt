@@ -193,3 +193,9 @@ restart_holds cells d r old new s db clean left first last none answers kept lea
 pub if_opened : {T : Type 0} (P Q : T → Type 0) (o : Option T) → ((x : T) → P x → Q x) → IfSome o P → IfSome o Q
 if_opened P Q None goes h = tt
 if_opened P Q (Some x) goes h = goes x h
+
+-- what follows of the value that came back, once the call before it is Ok
+pub if_accepted : {A E T : Type 0} (K : Type 0) (P Q : T → Type 0) (r : Result A E) (o : Option T)
+    → (K → (x : T) → P x → Q x) → OnOk r K → IfSome o P → OnOk r (IfSome o Q)
+if_accepted K P Q (Ok a) o goes kept h = if_opened P Q o (goes kept) h
+if_accepted K P Q (Err e) o goes kept h = tt

@@ -10,6 +10,8 @@ returns c = λ limits schema events answers new run. record {
       c.tables_apply_singly.ensures limits schema events answers new s subscriber run found;
   in_order = λ p sender found.
       c.sendings_come_once_in_order.ensures.order limits schema events answers new p sender run found;
+  kept = λ p sender found.
+      c.sendings_come_once_in_order.ensures.kept limits schema events answers new p sender run found;
   once = λ i j a b. c.sendings_come_once_in_order.ensures.once limits schema events answers new i j a b run;
   sent = λ i entry. c.sendings_come_once_in_order.ensures.sent limits schema events answers new i entry run;
   streams = c.streams_take_what_is_fed.ensures.all limits schema events answers new run;

@@ -32,6 +32,7 @@ returns c = record {
       )) c.served.ensures;
   endpoints = on_ok _ _ c.served.result (λ r both. (keeps c r both).endpoints) c.served.ensures;
   in_order = on_ok _ _ c.served.result (λ r both. (keeps c r both).in_order) c.served.ensures;
+  kept = on_ok _ _ c.served.result (λ r both. (keeps c r both).kept) c.served.ensures;
   once = on_ok _ _ c.served.result (λ r both. (keeps c r both).once) c.served.ensures;
   sent = on_ok _ _ c.served.result (λ r both. (keeps c r both).sent) c.served.ensures;
   streams = on_ok _ _ c.served.result (λ r both. (keeps c r both).streams) c.served.ensures;

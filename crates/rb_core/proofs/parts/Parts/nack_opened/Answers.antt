@@ -8,5 +8,5 @@ use Rattle.rb_core.proofs.parts.Parts.nack_opened.Goals as goal
 pub returns-clause-memory : goal.returns-clause-memory
 returns-clause-memory c =
     on_error _ _ c.open.result
-    (λ may. subst (λ found. MayRunOut (event.NackOpened c.args.delivery) (opened_for c.args.self.now found).0)
+    (λ may. subst (λ found. MayRunOut c.args.self.now (event.NackOpened c.args.delivery) (opened_for c.args.self.now found).0)
     (sym c.in-Some.is ∙ c.known.ensures.value) (may c.args.delivery)) c.open.ensures.memory
