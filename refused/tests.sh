@@ -7,8 +7,8 @@
 # ONLY is a pattern that the tests' names match, where not all are wanted. Some allocate more often than anybody waits for,
 # and one of rb_tests asks for nothing, so it is
 # ONLY='^tests::(desks|groups|limits::limits|lists|runs::runs|streams::(lines|showing|what|write)|texts)' for rb_tests, and
-# ONLY='^(appliers|cells|rows|tokens|deliveries|subscriptions|finishing|falling|restarts)' for rb_threads. With
-# REFUSE_LEAST only allocations of so many bytes are refused: REFUSE_LEAST=500000 ONLY='^(cells|segments)' refuses each
+# ONLY='^(appliers|histories::(publishing|deliveries|resumptions|brokers)|restarts|texts)' for rb_threads. With
+# REFUSE_LEAST only allocations of so many bytes are refused: REFUSE_LEAST=500000 ONLY='the_next_segment' refuses each
 # segment of the sequence.
 if [ $# -eq 0 ]; then
     echo "tests.sh: usage: sh refused/tests.sh CRATE.." >&2

@@ -1,6 +1,6 @@
 //! Groups the sections of a changeset by their shapes.
 
-ghost use Rattle.std.specs.Prelude.{◌≡◌, [], IfOk, OnOk, length, nat_lt};
+ghost use Rattle.std.specs.Prelude.{◌≡◌, [], IfOk, OnErr, OnOk, length, nat_lt};
 ghost use Rattle.cs_model.specs.Changeset.{all_changes};
 ghost use Rattle.cs_write.specs.Canon.{by_shape};
 ghost use Rattle.cs_write.specs.Groups.{added};
@@ -13,7 +13,8 @@ use std::alloc::{AllocError, Global};
 /// The sections of each shape. The shapes are in the order of their first sections.
 pub type Groups<'a> = IndexMap<ShapeRef<'a>, Vec<SectionRef<'a>>>;
 
-/// Adds a section to the group of its shape, which it creates if there is none. cs_group uses it.
+/// Adds a section to the group of its shape, which it creates if there is none. If memory runs out,
+/// the groups are as before. cs_group uses it.
 pub fn add_section<'a>(
     alloc: Global,
     groups: &mut Groups<'a>,
@@ -21,6 +22,7 @@ pub fn add_section<'a>(
 ) -> Result<(), AllocError>
     ensures ok { OnOk result (seen groups.new.entries
         ≡ added (seen groups.old.entries) section.entry) }
+    ensures err { OnErr result (seen groups.new.entries ≡ seen groups.old.entries) }
 {
     let shape = section.shape();
     if let Some(place) = groups.get_index_of(&shape) {

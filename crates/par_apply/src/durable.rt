@@ -14,7 +14,7 @@ use std::alloc::{AllocError, Global};
 
 /// A store that keeps the rows of tables and a cursor together over a crash.
 pub trait DurableRows {
-    ghost use Rattle.std.specs.{Prelude.{◌≡◌, ℕ, OnOk}, List.{IsDistinct}, Map.{keys_of}};
+    ghost use Rattle.std.specs.{Prelude.{◌≡◌, ℕ, OnErr, OnOk}, List.{IsDistinct}, Map.{keys_of}};
     ghost use Rattle.cs_apply.specs.{SameKey.{same_key}, State.{Rows}};
     ghost use Rattle.par_apply.specs.RowChanges.{overlaid};
 
@@ -24,6 +24,9 @@ pub trait DurableRows {
     /// A crash leaves the first rows with the first cursor, or the second rows with the second
     /// cursor.
     ghost leaves: { Self → Rows → ℕ → Rows → ℕ → Type 0 };
+
+    /// The store's last commit returned an error.
+    ghost failed: { Self → Type 0 };
 
     /// Why it did not commit.
     type Error: Drop;
@@ -37,7 +40,8 @@ pub trait DurableRows {
         ensures ok { (rows : Rows) (at : ℕ) → keeps self.old rows at
             → OnOk result (keeps self.new (overlaid rows changes.now) cursor) }
         ensures leaves { (rows : Rows) (at : ℕ) → keeps self.old rows at
-            → leaves self.new rows at (overlaid rows changes.now) cursor };
+            → leaves self.new rows at (overlaid rows changes.now) cursor }
+        ensures failed { OnErr result (failed self.new) };
 }
 
 /// Why `commit_durably` did not commit. The tables are as before the call.
@@ -66,6 +70,7 @@ pub fn commit_durably<S: DurableRows>(
     ensures kept { OnOk result (S.keeps store.new tables.new.rows cursor) }
     ensures err { OnErr result (tables.new ≡ tables.old) }
     ensures unasked { IfNotAsked result (store.new ≡ store.old) }
+    ensures failed { IfRefused result (λ _. S.failed store.new) }
     ensures returned { IfRefused result
         (λ back. planned_changes back ≡ planned_changes plan) }
     ensures leaves { IfRefused result (λ back. (at : ℕ) → S.keeps store.old tables.old.rows at

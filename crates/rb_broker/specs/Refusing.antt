@@ -1,5 +1,5 @@
 -- What a publisher's calls hand back, and the entries that it withdrew.
-use Rattle.std.specs.Prelude.{◌≡◌, ℕ, List, [], Bool, true, None, Some, Result, Ok, Err}
+use Rattle.std.specs.Prelude.{◌≡◌, ℕ, List, [], Bool, true, false, None, Some, Result, Ok, Err}
 use Rattle.std.specs.List.{list_any}
 use Rattle.std.specs.Ordering.{nat_cmp}
 use Rattle.std.specs.BTreeMap.{is_at}
@@ -9,6 +9,7 @@ use Rattle.cs_model.specs.Section.{Section}
 use Rattle.cs_group.specs.Group.{first_clash}
 use Rattle.cs_parse.specs.declared.end.EndError.{EndError}
 use Rattle.rb_sequence.specs.Cells.{Cells, CellToken, IsLastToken, IsTokenOf}
+use Rattle.rb_sequence.specs.Entry.{Entry}
 use Rattle.rb_broker.specs.Publishers.{StagedView}
 use Rattle.rb_broker.specs.declared.refusal.SendRefusal.{SendRefusal}
 use Rattle.rb_broker.specs.declared.refusal.SendRefusal.TheVariants as send
@@ -27,20 +28,32 @@ with_number n numbers = insert_key nat_cmp numbers n
 abbrev pub has_number : ℕ → List ℕ → Bool
 has_number n numbers = list_any (is_at (nat_cmp n)) numbers
 
+-- the cell of this number shows this entry
+abbrev pub CellShows : Cells → ℕ → (Entry → Type 0) → Type 0
+CellShows cells number P =
+    (told : CellToken) × IsTokenOf cells told × (told.number ≡ number) × P told.entry
+
+-- publisher p sent the entry, and it isn't one of those that were withdrawn
+abbrev pub IsOpenTo : ℕ → List ℕ → ℕ → Entry → Type 0
+IsOpenTo p withdrawn number entry =
+    (entry.item.publisher ≡ p) × (has_number number withdrawn ≡ false)
+
 -- Why publisher p, who withdrew these entries, can't withdraw the entry of this number. It is
--- another publisher's, or withdrawn already; `Schema` names the first section that clashes in the
--- changeset that the cell shows.
+-- another publisher's; or p's, and withdrawn already; or p's, and not withdrawn: `Schema` names the
+-- first section that clashes in its changeset, and memory runs out only if no section clashes.
 abbrev pub RefusesWithdrawal : Cells → ℕ → List ℕ → ℕ → WithdrawRefusal → Type 0
 RefusesWithdrawal cells p withdrawn number withdraw.NotPlaced = Unit {0}
 RefusesWithdrawal cells p withdrawn number withdraw.NotYours =
-    (told : CellToken) × IsTokenOf cells told × (told.number ≡ number)
-    × (told.entry.item.publisher ≡ p → ⊥)
+    CellShows cells number (λ entry. entry.item.publisher ≡ p → ⊥)
 RefusesWithdrawal cells p withdrawn number withdraw.AlreadyWithdrawn =
-    has_number number withdrawn ≡ true
+    CellShows cells number (λ entry. entry.item.publisher ≡ p)
+    × (has_number number withdrawn ≡ true)
 RefusesWithdrawal cells p withdrawn number (withdraw.Schema section) =
-    (told : CellToken) × IsTokenOf cells told × (told.number ≡ number)
-    × (first_clash [] told.entry.item.body ≡ Some section)
-RefusesWithdrawal cells p withdrawn number withdraw.Memory = Unit {0}
+    CellShows cells number (λ entry. IsOpenTo p withdrawn number entry
+    × (first_clash [] entry.item.body ≡ Some section))
+RefusesWithdrawal cells p withdrawn number withdraw.Memory =
+    CellShows cells number (λ entry. IsOpenTo p withdrawn number entry
+    × (first_clash [] entry.item.body ≡ None))
 
 -- the set that this publisher was fed, or the stream's error
 abbrev pub EndsWith : ℕ → Result StagedView EndError → Result (List Section) EndError → Type 0

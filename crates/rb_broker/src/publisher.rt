@@ -1,10 +1,13 @@
 //! `Publisher`: a stream of bytes that becomes staged changesets, and their way into the intake.
 
-ghost use Rattle.std.specs.Prelude.{◌≡◌, ◌++◌, ◌∷◌, [], suc, length, false, IfOk, IfErr, OnOk};
-ghost use Rattle.std.specs.Prelude.{OnErr};
+ghost use Rattle.std.specs.Prelude.{◌≡◌, ◌<◌, ◌++◌, ◌∷◌, [], suc, length, false, None, Some, Err};
+ghost use Rattle.std.specs.Prelude.{IsOk, IfOk, IfErr, OnOk, OnErr};
+ghost use Rattle.cs_model.specs.Changeset.{most_bytes};
 ghost use Rattle.cs_model.specs.declared.origin.Origin.TheVariants.{Withdraws};
 ghost use Rattle.cs_parse.specs.End.{admitted_answer, left_by};
-ghost use Rattle.cs_parse.specs.Progress.{FeedAnswers, answer_at_end, nothing};
+ghost use Rattle.cs_parse.specs.Progress.{FeedAnswers, advanced, answer_at_end, nothing};
+ghost use Rattle.cs_parse.specs.declared.fault.FaultKind.TheVariants.{TooLong};
+ghost use Rattle.cs_parse.specs.declared.fault.ParseFault.{ParseFault};
 ghost use Rattle.rb_broker.specs.Publishers.{item_of};
 ghost use Rattle.rb_broker.specs.Refusing.{EndsWith, RefusesWithdrawal, SendsNothing, has_number};
 ghost use Rattle.rb_broker.specs.Refusing.{with_number};
@@ -81,10 +84,23 @@ impl<L: Hall> Publisher<L> {
     /// Feeds the next piece of a changeset. Any cut is fine.
     ///
     /// Returns `Fault` with the piece that contains a fault's byte, and for each later piece until
-    /// `reset`. `Memory` does not change the stream.
+    /// `reset`. `Memory` does not change the stream, and never comes after a fault. It comes in
+    /// place of a fault only if an item is incomplete.
     pub fn feed(&mut self, alloc: Global, piece: &[u8]) -> Result<(), ParseError>
         ensures stream { FeedAnswers result self.old.stream piece.now self.new.stream }
         ensures same { self.new ≡ record self.old { stream = self.new.stream } }
+        // If the stream has a fault, the call returns it.
+        ensures lasts { (fault : ParseFault) → self.old.stream.fault ≡ Some fault
+            → result ≡ Err (ParseError.Fault fault) }
+        // An empty piece needs no memory.
+        ensures empty { piece.now ≡ [] → self.old.stream.fault ≡ None → IsOk result }
+        // Nor does the fault of a piece after the most bytes that a changeset may have.
+        ensures full { self.old.stream.offset ≡ most_bytes → self.old.stream.fault ≡ None
+            → 0 < length piece.now
+            → result ≡ Err (ParseError.Fault (record { at = most_bytes; kind = TooLong })) }
+        // Where no item is incomplete, memory hides no fault.
+        ensures memory { result ≡ Err ParseError.Memory → self.old.stream.pending ≡ []
+            → (advanced self.old.stream piece.now).fault ≡ None }
     {
         self.stream.feed(alloc, piece)
     }

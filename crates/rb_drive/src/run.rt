@@ -123,8 +123,10 @@ fn new_replica<S: Alter + Drop>(
         Some(Err(_)) => Err(DriveFault::Store),
         Some(Ok(conn)) => match Replica::create(conn, schema) {
             Ok(replica) => Ok(Some(replica)),
-            Err(ReplicaError::Memory) => Err(DriveFault::Memory),
-            Err(ReplicaError::Store | ReplicaError::Unusable) => Err(DriveFault::Store),
+            Err(refused) => match refused.why {
+                ReplicaError::Memory => Err(DriveFault::Memory),
+                ReplicaError::Store | ReplicaError::Unusable => Err(DriveFault::Store),
+            },
         },
     }
 }

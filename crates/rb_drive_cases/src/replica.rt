@@ -32,7 +32,7 @@ fn loaded<S: Alter + Drop>(
 ) -> Result<(Tables, u64), ReplicaError> {
     match Replica::open(conn, schema) {
         Ok(mut replica) => replica.load(alloc),
-        Err(error) => Err(error),
+        Err(refused) => Err(refused.why),
     }
 }
 

@@ -47,6 +47,7 @@ impl<L: StepLedger> Subscription<L> {
             S.leaves store.new self.old.tables.rows (cursor_of self.old)
             (overlaid self.old.tables.rows pending.changes)
             (cursor_of self.old + length pending.tokens)) }
+        ensures failed { IfFell self.old.pending self.new.pending (λ _. S.failed store.new) }
         ensures unasked { OnErr result (self.new.pending ≡ self.old.pending
             → store.new ≡ store.old) }
     {

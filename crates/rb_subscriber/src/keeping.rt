@@ -92,6 +92,7 @@ impl Endpoint {
         ensures leaves { IfStoreFailed result (λ plan.
             S.leaves store.new self.old.tables.rows self.old.cursor
             (overlaid self.old.tables.rows (planned_changes plan)) delivery.now.last) }
+        ensures failed { IfStoreFailed result (λ _. S.failed store.new) }
         ensures unasked { IfStoreUnasked result (store.new ≡ store.old) }
     {
         accepted_apply_singly();
@@ -136,6 +137,7 @@ impl Endpoint {
         ensures leaves { IfStoreFailed result (λ back.
             S.leaves store.new self.old.tables.rows self.old.cursor
             (overlaid self.old.tables.rows (planned_changes back)) last) }
+        ensures failed { IfStoreFailed result (λ _. S.failed store.new) }
     {
         match commit_durably(alloc, &mut self.tables, store, plan, last) {
             Ok(()) => {

@@ -1,6 +1,6 @@
 //! `Lost`: a subscription that fell, until it is resumed.
 
-ghost use Rattle.std.specs.{Prelude.{◌≡◌, ◌<◌, IsSome, IfOk}, Bool.{Decides}, Coded.{codes}};
+ghost use Rattle.std.specs.{Prelude.{◌≡◌, ◌<◌, IsSome, IfOk, OnErr}, Bool.{Decides}, Coded.{codes}};
 ghost use Rattle.cs_apply.specs.State.{state_code};
 ghost use Rattle.rb_subscriber.specs.{
   Lost.{FitsLost, cursor_after, gone_on},
@@ -75,7 +75,8 @@ impl<L: StepLedger> Lost<L> {
     /// before the delivery, or those after it. For the second it makes a copy of its own tables,
     /// and returns `AllocError` if memory runs out.
     pub fn fits(&self, alloc: Global, tables: &Tables, cursor: u64) -> Result<bool, AllocError>
-        ensures { IfOk result (λ fits. Decides fits (FitsLost self.now tables.now cursor)) }
+        ensures fits { IfOk result (λ fits. Decides fits (FitsLost self.now tables.now cursor)) }
+        ensures memory { OnErr result (cursor ≡ cursor_after self.now) }
     {
         let (before, after) = (self.before(), self.after());
         if cursor == before {

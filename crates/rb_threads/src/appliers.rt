@@ -6,9 +6,9 @@ ghost use Rattle.std.specs.Prelude.{◌<◌, ◌≤◌};
 use crate::given::insert;
 use crate::recorded::{FIFTH, FOURTH, THREE};
 use cs_apply::{ApplyError, Tables};
-use cs_model::{Changeset, CopyIn, RowKey, Schema, Seq, Shape};
+use cs_model::{Changeset, CopyIn, Schema, Seq, Shape};
 use cs_parse::parse;
-use par_apply::{Gate, Open, apply_split, plan_changes, split, stage};
+use par_apply::{Gate, Open, apply_split, plan_changes, split};
 use std::alloc::{AllocError, Global};
 use std::process::Abort;
 use std::sync::Arc;
@@ -130,11 +130,6 @@ fn appliers_answer_as_one(rt: HostRuntime) -> Result<(), Fail> {
         };
         goes(&rt, rt.alloc(), &[1, 0], &case)?;
     }
-    Ok(())
-}
-
-#[test]
-fn appliers_of_recorded_changes(rt: HostRuntime) -> Result<(), Fail> {
     for case in &RECORDED {
         goes(&rt, rt.alloc(), &[0, 0, 1], case)?;
     }
@@ -189,48 +184,10 @@ fn goes<R: Threads + Abort + Sync>(
     ends(rt, alloc, case, &given, &tables, answer)?;
     for n in [1, 2, 4, 16] {
         assert!(rt; 0 < n && n <= 16);
-        by_appliers(rt, alloc, case, &given, &changeset, n)?;
+        let mut tables = given.copy_in(alloc)?;
+        let answer = apply_split(rt, alloc, &mut tables, &changeset, n, &Open);
+        ends(rt, alloc, case, &given, &tables, answer)?;
     }
-    Ok(())
-}
-
-// in one call, and by a plan
-fn by_appliers<R: Threads + Abort + Sync>(
-    rt: &R,
-    alloc: Global,
-    case: &Case,
-    given: &Tables,
-    changeset: &Changeset,
-    n: usize,
-) -> Result<(), Fail>
-    requires some { 0 < n }
-    requires few { n ≤ 16 }
-{
-    let mut tables = given.copy_in(alloc)?;
-    let answer = apply_split(rt, alloc, &mut tables, changeset, n, &Open);
-    ends(rt, alloc, case, given, &tables, answer)?;
-    let mut tables = given.copy_in(alloc)?;
-    let answer = by_plan(rt, alloc, &mut tables, changeset, n);
-    ends(rt, alloc, case, given, &tables, answer)
-}
-
-// plans, stages and commits
-fn by_plan<R: Threads + Sync>(
-    rt: &R,
-    alloc: Global,
-    tables: &mut Tables,
-    changeset: &Changeset,
-    n: usize,
-) -> Result<(), ApplyError>
-    requires some { 0 < n }
-    requires few { n ≤ 16 }
-{
-    let plan = plan_changes(rt, alloc, tables, changeset, n, &Open)?;
-    let places = tables.places_mut();
-    let Ok(staged) = stage(alloc, places, plan) else {
-        return Err(ApplyError::Memory);
-    };
-    staged.commit(places);
     Ok(())
 }
 
@@ -336,55 +293,4 @@ fn plans_at_once<R: Threads + Clock + Abort + Sync>(
         return Err(Fail::new("the shards aren't planned at once"));
     }
     Ok(())
-}
-
-// INSERTs of keys 1 and 4 and a DELETE of key 2, and the rows after them
-const AGAIN: &str = "\
-540201007400120001000000000000000103017912000100000000000000040301780900010000000000000002030178";
-
-const AFTER: &str = "\
-010000000000000001 010000000000000001030179
-010000000000000004 010000000000000004030178
-";
-
-#[test]
-fn appliers_undo(rt: HostRuntime) -> Result<(), Fail> {
-    let alloc = rt.alloc();
-    let mut tables = tables(alloc, &[1, 0])?;
-    tables.apply(alloc, &inserts(alloc, 2)?)?;
-    for text in [GONE, AGAIN] {
-        undoes(&rt, alloc, &mut tables, &changeset(alloc, &[text])?)?;
-    }
-    assert_eq!(rt; listed(alloc, &tables)?.as_str(), AFTER);
-    Ok(())
-}
-
-// Stages and undoes a plan, and then commits it. While it is staged and after that, the rows are as
-// before. Key 1 keeps its place, also without a row, and key 4 has none.
-fn undoes<R: Threads + Abort + Sync>(
-    rt: &R,
-    alloc: Global,
-    tables: &mut Tables,
-    changeset: &Changeset,
-) -> Result<(), Fail> {
-    let before = listed(alloc, tables)?;
-    let plan = plan_changes(rt, alloc, tables, changeset, 2, &Open)?;
-    let staged = stage(alloc, tables.places_mut(), plan);
-    assert_eq!(rt; listed(alloc, tables)?.as_str(), before.as_str());
-    staged?.undo(tables.places_mut());
-    assert_eq!(rt; listed(alloc, tables)?.as_str(), before.as_str());
-    assert!(rt; has_place(alloc, tables, 1)? && !has_place(alloc, tables, 4)?);
-    Ok(by_plan(rt, alloc, tables, changeset, 2)?)
-}
-
-// whether a key has a place
-fn has_place(alloc: Global, tables: &mut Tables, number: u8) -> Result<bool, AllocError> {
-    let bytes = Seq::from_slice(alloc, &[1, 0, 0, 0, 0, 0, 0, 0, number])?;
-    let key = RowKey { table: 0, bytes };
-    let places = tables.places_mut();
-    let is_made = places.hold(key.copy_in(alloc)?)?;
-    if is_made {
-        places.unset(&key);
-    }
-    Ok(!is_made)
 }

@@ -11,11 +11,10 @@ use std::sync::Wait;
 use std::thread;
 use std::thread::Threads;
 
-/// A subscriber's random course, which its number fixes. It makes no detour if there are none.
+/// A subscriber's random course, which its number fixes.
 #[derive(Clone, Copy)]
 pub(crate) struct Course {
     pub(crate) state: u64,
-    pub(crate) detours: bool,
 }
 
 impl Course {
@@ -29,7 +28,10 @@ impl Course {
     }
 }
 
-/// Accepts everything up to `last`, by its course, within so many turns.
+// after this many turns a subscriber fails
+const MOST_TURNS: u64 = 10_000_000;
+
+/// Accepts everything up to `last`, by its course.
 pub(crate) fn accept_all<L: Hall, R: Threads + Wait + Sync>(
     rt: &R,
     alloc: Global,
@@ -37,14 +39,13 @@ pub(crate) fn accept_all<L: Hall, R: Threads + Wait + Sync>(
     subscription: &mut Subscription<L>,
     course: &mut Course,
     last: u64,
-    turns: u64,
 ) -> Result<(), &'static str> {
     let mut held = None;
-    for now in 0..turns {
+    for now in 0..MOST_TURNS {
         if held.is_none() && subscription.cursor() >= last {
             return Ok(());
         }
-        let detour = if course.detours { course.next() } else { 15 };
+        let detour = course.next();
         held = match (detour, held) {
             (0, _) => reconnect(rt, alloc, broker, subscription)?,
             (1, held) => expire(rt, alloc, broker, now, held)?,

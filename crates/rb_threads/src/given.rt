@@ -1,14 +1,9 @@
-//! What the tests are given: a table, changesets of one change, the rows that changesets leave,
-//! items, brokers and publishers.
-
-ghost use Rattle.std.specs.Prelude.{◌≡◌, IfOk};
+//! What the tests are given: a table, changesets of one change, brokers and publishers.
 
 use cs_apply::Tables;
-use cs_model::{Octets, Origin, Schema, Seq, Shape};
-use cs_parse::{ParseError, parse};
+use cs_model::{Octets, Schema, Seq, Shape};
 use rb_broker::{AddRefusal, Broker, Hall, Opened, Publisher, PublisherMaker};
 use rb_desk::Config;
-use rb_sequence::{Entry, Item};
 use std::alloc::{AllocError, Global};
 use std::sync::Arc;
 use std::test::Fail;
@@ -51,51 +46,14 @@ pub fn empty_tables(alloc: Global) -> Result<Tables, Fail> {
     Ok(Tables::new(alloc, schema, kept))
 }
 
-/// The table after so many of these changesets, which are in hexadecimal, applied one after
-/// another.
-pub fn tables_after(alloc: Global, changesets: &[&str], count: u64) -> Result<Tables, Fail> {
-    let mut tables = empty_tables(alloc)?;
-    for text in changesets.iter().take(count as usize) {
-        let bytes = hex::decode(alloc, *text)?;
-        tables.apply(alloc, &parse(alloc, &bytes)?)?;
-    }
-    Ok(tables)
-}
-
-/// The limits of a broker of this many entries and waiting items.
-pub fn limits(capacity: u64, intake: u64) -> Result<Config, Fail> {
-    Ok(Config::new(16, 4, 10, capacity, intake, 1)?)
-}
-
-/// A broker with these limits.
-pub fn opened(alloc: Global, capacity: u64, intake: u64) -> Result<Opened, Fail> {
-    Ok(Opened::new(alloc, limits(capacity, intake)?, schema(alloc)?)?)
-}
-
-/// The entry with this number, whose key is its number.
-pub fn entry(alloc: Global, number: u64) -> Result<Entry, Fail>
-    ensures { IfOk result (λ e. e.number ≡ number) }
-{
-    entry_of(alloc, number, &insert(number))
-}
-
-/// The entry with this number, and this changeset.
-pub fn entry_of(alloc: Global, number: u64, text: &[u8]) -> Result<Entry, Fail>
-    ensures { IfOk result (λ e. e.number ≡ number) }
-{
-    let body = match parse(alloc, text) {
-        Ok(body) => body,
-        Err(ParseError::Memory) => return Err(AllocError.into()),
-        Err(ParseError::Fault(fault)) => return Err(fault.into()),
-    };
-    let item = Item {
-        publisher: 0,
-        own: number,
-        origin: Origin::Sent,
-        body,
-    };
-    let form = item.form(alloc)?;
-    Ok(Entry::new(number, item, form))
+/// A broker with batches of this size, this window, this many entries and so many waiting items. A
+/// delivery expires after 10 ticks.
+pub fn opened(
+    alloc: Global,
+    (batch, window, capacity, intake): (u64, u64, u64, u64),
+) -> Result<Opened, Fail> {
+    let limits = Config::new(batch, window, 10, capacity, intake, 1)?;
+    Ok(Opened::new(alloc, limits, schema(alloc)?)?)
 }
 
 /// One publisher more.

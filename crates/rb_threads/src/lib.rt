@@ -5,27 +5,21 @@
 #[cfg(test)]
 mod appliers;
 #[cfg(test)]
-mod bench;
-#[cfg(test)]
-mod beside;
-#[cfg(test)]
-mod calls;
-#[cfg(test)]
-mod cells;
-#[cfg(test)]
 mod courses;
-#[cfg(test)]
-mod deliveries;
-#[cfg(test)]
-mod desks;
 #[cfg(test)]
 mod embedding;
 #[cfg(test)]
 mod falling;
 #[cfg(test)]
-mod finishing;
-#[cfg(test)]
 mod given;
+#[cfg(test)]
+mod histories;
+#[cfg(test)]
+mod history;
+#[cfg(test)]
+mod owners;
+#[cfg(test)]
+mod publishing;
 #[cfg(test)]
 mod recorded;
 #[cfg(test)]
@@ -33,14 +27,6 @@ mod restarts;
 #[cfg(test)]
 mod rows;
 #[cfg(test)]
-mod segments;
-#[cfg(test)]
-mod subscribers;
-#[cfg(test)]
-mod subscriptions;
+mod subscribing;
 #[cfg(test)]
 mod texts;
-#[cfg(test)]
-mod threads;
-#[cfg(test)]
-mod tokens;

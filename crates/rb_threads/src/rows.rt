@@ -1,335 +1,327 @@
-//! Histories of one thread on the broker: a full intake, a withdrawal, a full sequence, a closed
-//! one, and all publishers that there may be.
+//! Histories of a broker: lines of calls with their answers.
 
-ghost use Rattle.std.specs.Prelude.{◌≡◌, IfOk};
+/// The limits of a broker, as `opened` takes them; the lines; and the steps of all subscriptions.
+pub type Row = ((u64, u64, u64, u64), &'static [u8], u64);
 
-use crate::bench::{Bench, Scenario, play};
-use crate::given::{insert, limits, publisher};
-use cs_model::Origin;
-use cs_parse::ParseError;
-use rb_broker::{
-    AddRefusal, Broker, Hall, MOST_PUBLISHERS, PlaceRefusal, Publisher, SendRefusal, StagedSet,
-    TakeError, WithdrawRefusal,
-};
-use rb_sequence::Told;
-use rb_sequencer::{Sequencer, Turn};
-use std::alloc::Global;
-use std::process::Abort;
-use std::sync::Wait;
-use std::test::Fail;
+pub const FULL_INTAKE: Row = (
+    (16, 4, 2, 1),
+    b"\
+send 0 1 = Sent(1)
+send 0 2 = Full
+turn = Placed(1)
+send 0 2 = Sent(2)
+turn = Placed(2)
+turn = Idle
+hand = Hand(None)
+send 0 3 = Sent(3)
+turn = SequenceFull
+hand = Hand(Some((0, 3)))
+turn = SequenceFull
+hand = Hand(Some((0, 3)))",
+    0,
+);
 
-// (1, 'x') is inserted, and becomes (1, 'y')
-const CHANGED: [u8; 38] = [
-    0x54, 2, 1, 0, 0x74, 0, 0x12, 0, 1, 0, 0, 0, 0, 0, 0, 0, 1, 3, 1, 0x78, 0x17, 0, 1, 0, 0, 0, 0,
-    0, 0, 0, 1, 3, 1, 0x78, 0, 3, 1, 0x79,
-];
+// the sequence is full after the first withdrawal
+pub const WITHDRAWAL: Row = (
+    (16, 4, 2, 4),
+    b"\
+put 1 = Placed(1)
+withdraw 0 1 = Sent(2)
+turn = Placed(2)
+entry 1 = Sent(1)
+entry 2 = Withdraws(1)
+withdraw 0 1 = NotWithdrawn(AlreadyWithdrawn)
+withdraw 0 3 = NotWithdrawn(NotPlaced)
+publisher = Publisher(1)
+withdraw 1 1 = NotWithdrawn(NotYours)
+withdraw 0 2 = Sent(3)
+turn = SequenceFull
+subscribe 0 = Made
+take 0 0 = Delivery(1, 0, 1, 2)
+accept 0 0 = Accepted(2)",
+    1,
+);
 
-// the DELETE of (1, 'y')
-const TAKEN_BACK: [u8; 20] = [
-    0x54, 2, 1, 0, 0x74, 0, 0x09, 0, 1, 0, 0, 0, 0, 0, 0, 0, 1, 3, 1, 0x79,
-];
+pub const CLOSED_SEQUENCE: Row = (
+    (16, 4, 1, 1),
+    b"\
+send 0 1 = Sent(1)
+close = Closed(0)
+close = Closed(0)
+send 0 2 = Closed(0)
+turn = Closed(0)
+hand = Hand(Some((0, 1)))",
+    0,
+);
 
-#[test]
-fn full_intake(rt: HostRuntime) -> Result<(), Fail> {
-    play(&rt, rt.alloc(), limits(2, 1)?, FullIntake)
-}
+pub const THE_WINDOW_AND_THE_FLOOR: Row = (
+    (1, 2, 16, 4),
+    b"\
+foreign 5 = OtherSchema
+subscribe 0 = Made
+put 1 = Placed(1)
+put 2 = Placed(2)
+put 3 = Placed(3)
+take 0 0 = Delivery(1, 0, 1, 1)
+take 0 0 = Delivery(2, 0, 2, 2)
+take 0 0 = Desk(WindowFull)
+ack 0 0 = Desk(NotAccepted { cursor: 0 })
+accept 0 0 = Accepted(1)
+accept 0 1 = Accepted(2)
+ack 0 1 = Floor(0)
+ack 0 0 = Floor(2)
+take 0 0 = Delivery(3, 0, 3, 3)",
+    5,
+);
 
-#[test]
-fn withdrawal(rt: HostRuntime) -> Result<(), Fail> {
-    play(&rt, rt.alloc(), limits(2, 4)?, Withdraws)
-}
+pub const WHAT_IS_GIVEN_BACK_GOES_TO_ANY: Row = (
+    (1, 2, 16, 4),
+    b"\
+subscribe 0 = Made
+put 1 = Placed(1)
+put 2 = Placed(2)
+put 3 = Placed(3)
+take 0 0 = Delivery(1, 0, 1, 1)
+take 0 0 = Delivery(2, 0, 2, 2)
+take 0 0 = Desk(WindowFull)
+nack 0 1 = Done
+any 0 = Delivery(3, 0, 3, 3)
+any 0 = Desk(Empty { front: 3 })
+nack 0 2 = Done
+take 0 0 = Delivery(4, 0, 2, 2)
+unsubscribe 0 = Done
+take 0 0 = Desk(Closed)
+accept 0 0 = Refused(Closed)
+unsubscribe 0 = Desk(Closed)
+reconnect 0 = Desk(Closed)
+ack 0 3 = Desk(NotInFlight)
+any 0 = Desk(Empty { front: 3 })",
+    6,
+);
 
-#[test]
-fn sixty_four_publishers(rt: HostRuntime) -> Result<(), Fail> {
-    play(&rt, rt.alloc(), limits(1, 1)?, AllPublishers)
-}
+pub const A_REFUSED_BATCH_IS_OPENED: Row = (
+    (16, 4, 16, 4),
+    b"\
+subscribe 0 = Made
+put 1 = Placed(1)
+delete 5 = Placed(2)
+put 2 = Placed(3)
+take 0 0 = Delivery(1, 0, 1, 3)
+accept 0 0 = Refused(Conflict(Conflict { position: 1, kind: NotFound }))
+open 0 0 = Opened(3)
+put 3 = Placed(4)
+take 0 0 = Delivery(2, 0, 1, 1)
+accept 0 1 = Accepted(1)
+ack 0 1 = Floor(1)
+take 0 0 = Delivery(3, 0, 2, 2)
+accept 0 2 = Refused(Conflict(Conflict { position: 0, kind: NotFound }))
+take 0 0 = Delivery(4, 0, 3, 3)
+accept 0 3 = Refused(Gap { expected: 2 })
+take 0 0 = Delivery(5, 0, 4, 4)
+open 0 0 = Desk(NotInFlight)
+reconnect 0 = Link(2)
+take 0 0 = Delivery(6, 0, 2, 4)",
+    9,
+);
 
-#[test]
-fn closed_sequence(rt: HostRuntime) -> Result<(), Fail> {
-    play(&rt, rt.alloc(), limits(1, 1)?, ClosedSequence)
-}
+pub const A_NEW_LINK_CUTS_ANEW: Row = (
+    (256, 4, 16, 4),
+    b"\
+subscribe 0 = Made
+put 1 = Placed(1)
+take 0 0 = Delivery(1, 0, 1, 1)
+accept 0 0 = Accepted(1)
+ack 0 0 = Floor(1)
+put 2 = Placed(2)
+put 3 = Placed(3)
+take 0 0 = Delivery(2, 0, 2, 3)
+accept 0 1 = Accepted(3)
+put 4 = Placed(4)
+take 0 0 = Delivery(3, 0, 4, 4)
+put 5 = Placed(5)
+put 6 = Placed(6)
+reconnect 0 = Link(2)
+accept 0 2 = Refused(StaleLink)
+ack 0 2 = Desk(StaleLink)
+take 0 0 = Delivery(4, 0, 4, 6)",
+    6,
+);
 
-// Stages what is fed. If memory runs out, the stream is as it was, and is fed once more.
-pub(crate) fn stage<L: Hall>(
-    alloc: Global,
-    publisher: &mut Publisher<L>,
-    bytes: &[u8],
-) -> Result<StagedSet<L>, Fail>
-    ensures { IfOk result (λ set. set.publisher ≡ publisher.new.number) }
-{
-    match publisher.feed(alloc, bytes) {
-        Err(ParseError::Memory) => publisher.feed(alloc, bytes)?,
-        fed => fed?,
-    }
-    Ok(publisher.end(alloc)?)
-}
+pub const A_NEW_LINK_AT_THE_FRONT: Row = (
+    (16, 4, 16, 4),
+    b"\
+subscribe 0 = Made
+put 1 = Placed(1)
+put 2 = Placed(2)
+take 0 0 = Delivery(1, 0, 1, 2)
+accept 0 0 = Accepted(2)
+reconnect 0 = Link(2)
+take 0 0 = Desk(Empty { front: 2 })
+subscribe 5 = Desk(StartAhead { front: 2 })
+close = Closed(2)
+take 0 0 = Drained(2)",
+    2,
+);
 
-// The number that a turn places. If memory runs out, the item is in hand, and the next turn tries
-// it again.
-fn placed<L: Hall, R: Wait + Abort>(
-    rt: &R,
-    alloc: Global,
-    broker: &Broker<L>,
-    sequencer: &mut Sequencer<L>,
-) -> Option<u64> {
-    for _ in 0..2 {
-        match sequencer.turn(rt, alloc, broker) {
-            Turn::Placed(told) => return Some(told.number()),
-            Turn::Refused(PlaceRefusal::Memory) => {
-                let next = sequencer.placed().wrapping_add(1);
-                assert!(rt; sequencer.hand().is_some() && broker.sequence().get(next).is_none());
-            }
-            Turn::Idle | Turn::Refused(_) => return None,
-        }
-    }
-    None
-}
+pub const WHAT_EXPIRES_IS_DELIVERED_AGAIN: Row = (
+    (16, 4, 16, 4),
+    b"\
+subscribe 0 = Made
+put 1 = Placed(1)
+take 0 5 = Delivery(1, 0, 1, 1)
+accept 0 0 = Accepted(1)
+expire 14 = Expired(0)
+expire 15 = Expired(1)
+take 0 15 = Delivery(2, 0, 1, 1)
+accept 0 1 = Refused(Seen)
+ack 0 0 = Desk(NotInFlight)
+ack 0 1 = Floor(1)",
+    3,
+);
 
-// sends what is fed, and places it
-pub(crate) fn put<L: Hall, R: Wait + Abort>(
-    rt: &R,
-    alloc: Global,
-    bench: &mut Bench<L>,
-    bytes: &[u8],
-) -> Result<Option<u64>, Fail> {
-    let set = stage(alloc, &mut bench.publisher, bytes)?;
-    if bench.publisher.send(rt, &bench.broker, set).is_err() {
-        return Err(Fail::new("the intake is full"));
-    }
-    Ok(placed(rt, alloc, &bench.broker, &mut bench.sequencer))
-}
+pub const A_LATE_CLOCK_IS_NO_EARLIER_ONE: Row = (
+    (16, 4, 16, 4),
+    b"\
+subscribe 0 = Made
+put 1 = Placed(1)
+take 0 20 = Delivery(1, 0, 1, 1)
+expire 5 = Expired(0)
+expire 29 = Expired(0)
+expire 30 = Expired(1)
+take 0 3 = Delivery(2, 0, 1, 1)
+expire 39 = Expired(0)
+expire 40 = Expired(1)
+expire 18446744073709551615 = Expired(0)
+take 0 0 = Delivery(3, 0, 1, 1)
+expire 18446744073709551615 = Expired(0)
+accept 0 2 = Accepted(1)
+ack 0 2 = Floor(1)",
+    4,
+);
 
-// sends and places these changesets, which are in hexadecimal: their numbers are 1, 2 and so on
-pub(crate) fn put_all<L: Hall, R: Wait + Abort>(
-    rt: &R,
-    alloc: Global,
-    bench: &mut Bench<L>,
-    changesets: &[&str],
-) -> Result<(), Fail> {
-    let mut last: u64 = 0;
-    for text in changesets {
-        let bytes = hex::decode(alloc, *text)?;
-        last = last.wrapping_add(1);
-        assert_eq!(rt; put(rt, alloc, bench, &bytes)?, Some(last));
-    }
-    Ok(())
-}
+pub const FOREIGN_DELIVERIES_ARE_REFUSED: Row = (
+    (16, 4, 16, 4),
+    b"\
+subscribe 0 = Made
+subscribe 0 = Made
+put 1 = Placed(1)
+take 1 0 = Delivery(1, 1, 1, 1)
+accept 0 0 = Refused(StaleLink)
+ack 0 0 = Desk(StaleLink)
+nack 0 0 = Desk(StaleLink)
+open 0 0 = Desk(StaleLink)
+expire 10 = Expired(1)
+ack 1 0 = Desk(NotInFlight)
+nack 1 0 = Desk(NotInFlight)
+open 1 0 = Desk(NotInFlight)
+accept 1 0 = Accepted(1)
+take 1 10 = Delivery(2, 1, 1, 1)
+accept 1 1 = Refused(Seen)
+ack 1 1 = Floor(1)
+ack 1 1 = Desk(NotInFlight)
+nack 1 1 = Desk(NotInFlight)
+open 1 1 = Desk(NotInFlight)
+put 2 = Placed(2)
+take 1 10 = Delivery(3, 1, 2, 2)
+reconnect 1 = Link(3)
+accept 1 2 = Refused(StaleLink)
+ack 1 2 = Desk(StaleLink)
+nack 1 2 = Desk(StaleLink)
+open 1 2 = Desk(StaleLink)
+take 0 10 = Delivery(4, 0, 1, 2)
+accept 0 3 = Accepted(2)
+ack 0 3 = Floor(2)",
+    7,
+);
 
-#[derive(Drop)]
-struct FullIntake;
+// The store fails at the second delivery. Of all states only two fit: the rows and the cursor from
+// before it, and those after it.
+pub const RESUMED_FROM_BEFORE: Row = (
+    (2, 4, 16, 4),
+    b"\
+put 9 = Placed(1)
+put 1 = Placed(2)
+put 2 = Placed(3)
+delete 1 = Placed(4)
+delete 2 = Placed(5)
+put 2 = Placed(6)
+delete 9 = Placed(7)
+subscribe 1 = Made
+take 0 0 = Delivery(1, 0, 2, 3)
+take 0 0 = Delivery(2, 0, 4, 5)
+take 0 0 = Delivery(3, 0, 6, 7)
+durable 0 0 = Accepted(3)
+durable 0 1 = Refused(Store)
+durable 0 0 = Refused(Store)
+durable 0 1 = Refused(Store)
+durable 0 2 = Refused(Store)
+fall = Fell(3, 5, 2)
+fits 3 3 = Fits(true)
+fits 5 5 = Fits(true)
+fits 3 5 = Fits(false)
+fits 5 3 = Fits(false)
+fits 4 3 = Fits(false)
+fits 4 5 = Fits(false)
+fits 4 4 = Fits(false)
+fits 7 7 = Fits(false)
+resume 3 5 = NotResumed(OtherState)
+resume 5 3 = NotResumed(OtherState)
+resume 4 4 = NotResumed(OtherState)
+resume 3 3 = Link(2)
+durable 0 2 = Refused(StaleLink)
+take 0 0 = Delivery(4, 0, 4, 5)
+durable 0 3 = Accepted(5)
+ack 0 3 = Floor(5)
+take 0 0 = Delivery(5, 0, 6, 7)
+durable 0 4 = Accepted(7)
+ack 0 4 = Floor(7)",
+    8,
+);
 
-impl Scenario for FullIntake {
-    fn run<L: Hall, R: Wait + Abort>(self, rt: &R, mut bench: Bench<L>) -> Result<(), Fail> {
-        let alloc = bench.alloc;
-        fills(rt, alloc, &mut bench)?;
-        fills_the_sequence(rt, alloc, &mut bench)
-    }
-}
+pub const RESUMED_FROM_AFTER: Row = (
+    (2, 4, 16, 4),
+    b"\
+put 9 = Placed(1)
+put 1 = Placed(2)
+put 2 = Placed(3)
+delete 1 = Placed(4)
+delete 2 = Placed(5)
+put 2 = Placed(6)
+delete 9 = Placed(7)
+subscribe 1 = Made
+take 0 0 = Delivery(1, 0, 2, 3)
+take 0 0 = Delivery(2, 0, 4, 5)
+take 0 0 = Delivery(3, 0, 6, 7)
+durable 0 0 = Accepted(3)
+durable 0 1 = Refused(Store)
+fall = Fell(3, 5, 2)
+resume 5 5 = Link(2)
+durable 0 2 = Refused(StaleLink)
+take 0 0 = Delivery(4, 0, 6, 7)
+durable 0 3 = Accepted(7)
+ack 0 3 = Floor(7)",
+    6,
+);
 
-fn fills<L: Hall, R: Wait + Abort>(
-    rt: &R,
-    alloc: Global,
-    bench: &mut Bench<L>,
-) -> Result<(), Fail> {
-    let set = stage(alloc, &mut bench.publisher, &insert(1))?;
-    assert_eq!(rt; bench.publisher.send(rt, &bench.broker, set).ok(), Some(1));
-    let set = stage(alloc, &mut bench.publisher, &insert(2))?;
-    let Err(SendRefusal::Full(set)) = bench.publisher.send(rt, &bench.broker, set) else {
-        return Err(Fail::new("the intake is full"));
-    };
-    assert_eq!(rt;
-        placed(rt, alloc, &bench.broker, &mut bench.sequencer),
-        Some(1)
-    );
-    assert_eq!(rt; bench.publisher.send(rt, &bench.broker, set).ok(), Some(2));
-    assert_eq!(rt;
-        placed(rt, alloc, &bench.broker, &mut bench.sequencer),
-        Some(2)
-    );
-    assert_eq!(rt;
-        placed(rt, alloc, &bench.broker, &mut bench.sequencer),
-        None
-    );
-    assert!(rt; bench.sequencer.hand().is_none());
-    Ok(())
-}
+// after as many publishers and subscriptions as there may be
+pub const ONE_MORE_AND_THE_LAST: &[u8] = b"\
+publisher = NoPublisher(TooMany)
+send 63 1 = Sent(1)
+subscribe 0 = Desk(TooMany)
+turn = Placed(1)
+take 1023 0 = Delivery(1, 1023, 1, 1)";
 
-// The sequence is full: the item stays in hand.
-fn fills_the_sequence<L: Hall, R: Wait + Abort>(
-    rt: &R,
-    alloc: Global,
-    bench: &mut Bench<L>,
-) -> Result<(), Fail> {
-    assert_eq!(rt; put(rt, alloc, bench, &insert(3))?, None);
-    assert_eq!(rt; own_in_hand(&bench.sequencer), Some(3));
-    assert_eq!(rt;
-        placed(rt, alloc, &bench.broker, &mut bench.sequencer),
-        None
-    );
-    assert_eq!(rt; own_in_hand(&bench.sequencer), Some(3));
-    has_two(rt, &bench.sequencer);
-    Ok(())
-}
+// one is placed, one in hand, and two wait
+pub const UNFINISHED: &[u8] = b"\
+publisher = Publisher(1)
+put 1 = Placed(1)
+send 1 4 = Sent(1)
+send 0 2 = Sent(2)
+send 0 3 = Sent(3)
+turn = SequenceFull";
 
-// the own number of the item in hand
-pub(crate) fn own_in_hand<L: Hall>(sequencer: &Sequencer<L>) -> Option<u64> {
-    let item = sequencer.hand()?;
-    Some(item.own)
-}
+// the publisher and the own number of each item that is left then
+pub const LEFT: [(u64, u64); 3] = [(1, 1), (0, 2), (0, 3)];
 
-// the number that the token of a number has
-fn told_number<L: Hall>(sequencer: &Sequencer<L>, number: u64) -> Option<u64> {
-    let told = sequencer.told(number)?;
-    Some(told.number())
-}
-
-// the sequencer placed two items
-fn has_two<L: Hall, R: Abort>(rt: &R, sequencer: &Sequencer<L>) {
-    assert_eq!(rt; sequencer.placed(), 2);
-    assert_eq!(rt; told_number(sequencer, 0), None);
-    assert_eq!(rt; told_number(sequencer, 2), Some(2));
-    assert_eq!(rt; told_number(sequencer, 3), None);
-}
-
-#[derive(Drop)]
-struct Withdraws;
-
-impl Scenario for Withdraws {
-    fn run<L: Hall, R: Wait + Abort>(self, rt: &R, mut bench: Bench<L>) -> Result<(), Fail> {
-        let alloc = bench.alloc;
-        takes_back(rt, alloc, &mut bench)?;
-        let mut other = publisher(alloc, &mut bench.publishers, &bench.broker)?;
-        is_refused(rt, alloc, &mut bench, &mut other)
-    }
-}
-
-// the withdrawal of entry 1 is entry 2, the last that the sequence has room for
-fn takes_back<L: Hall, R: Wait + Abort>(
-    rt: &R,
-    alloc: Global,
-    bench: &mut Bench<L>,
-) -> Result<(), Fail> {
-    assert_eq!(rt; put(rt, alloc, bench, &CHANGED)?, Some(1));
-    let set = withdraw(alloc, &mut bench.publisher, &bench.broker, 1)?;
-    assert_eq!(rt; set.withdraws().map(Told::number), Some(1));
-    assert_eq!(rt; bench.publisher.send(rt, &bench.broker, set).ok(), Some(2));
-    assert_eq!(rt;
-        placed(rt, alloc, &bench.broker, &mut bench.sequencer),
-        Some(2)
-    );
-    let Some(entry) = bench.broker.sequence().get(2) else {
-        return Err(Fail::new("entry 2 is placed"));
-    };
-    let text: &[u8] = entry.text();
-    assert!(rt; text == TAKEN_BACK.as_slice());
-    assert_eq!(rt; entry.origin(), Origin::Withdraws(1));
-    Ok(())
-}
-
-// stages a withdrawal; if memory runs out, the entry isn't withdrawn, and is once more
-fn withdraw<L: Hall>(
-    alloc: Global,
-    publisher: &mut Publisher<L>,
-    broker: &Broker<L>,
-    number: u64,
-) -> Result<StagedSet<L>, WithdrawRefusal>
-    ensures { IfOk result (λ set. set.publisher ≡ publisher.new.number) }
-{
-    match publisher.withdraw(alloc, broker.sequence(), number) {
-        Err(WithdrawRefusal::Memory) => publisher.withdraw(alloc, broker.sequence(), number),
-        staged => staged,
-    }
-}
-
-fn is_refused<L: Hall, R: Abort>(
-    rt: &R,
-    alloc: Global,
-    bench: &mut Bench<L>,
-    other: &mut Publisher<L>,
-) -> Result<(), Fail> {
-    let (publisher, sequence) = (&mut bench.publisher, bench.broker.sequence());
-    let again = publisher.withdraw(alloc, sequence, 1);
-    assert_eq!(rt; again.err(), Some(WithdrawRefusal::AlreadyWithdrawn));
-    let missing = publisher.withdraw(alloc, sequence, 3);
-    assert_eq!(rt; missing.err(), Some(WithdrawRefusal::NotPlaced));
-    let _staged = publisher.withdraw(alloc, sequence, 2)?;
-    let stranger = other.withdraw(alloc, sequence, 1);
-    assert_eq!(rt; stranger.err(), Some(WithdrawRefusal::NotYours));
-    Ok(())
-}
-
-#[derive(Drop)]
-struct AllPublishers;
-
-impl Scenario for AllPublishers {
-    fn run<L: Hall, R: Wait + Abort>(self, rt: &R, mut bench: Bench<L>) -> Result<(), Fail> {
-        let alloc = bench.alloc;
-        makes(rt, alloc, &mut bench)
-    }
-}
-
-// each publisher has the next number, and there is no 65th
-fn makes<L: Hall, R: Abort>(rt: &R, alloc: Global, bench: &mut Bench<L>) -> Result<(), Fail> {
-    assert_eq!(rt; bench.publisher.number(), 0);
-    for number in 1..MOST_PUBLISHERS {
-        assert_eq!(rt; next_number(alloc, bench)?, number);
-    }
-    assert_eq!(rt; next_number(alloc, bench), Err(AddRefusal::TooMany));
-    assert_eq!(rt; bench.publishers.made(), MOST_PUBLISHERS);
-    Ok(())
-}
-
-fn next_number<L: Hall>(alloc: Global, bench: &mut Bench<L>) -> Result<u64, AddRefusal> {
-    let publisher = bench.publishers.make(alloc, &bench.broker)?;
-    Ok(publisher.number())
-}
-
-#[derive(Drop)]
-struct ClosedSequence;
-
-impl Scenario for ClosedSequence {
-    fn run<L: Hall, R: Wait + Abort>(self, rt: &R, mut bench: Bench<L>) -> Result<(), Fail> {
-        let alloc = bench.alloc;
-        is_closed(rt, alloc, &mut bench)?;
-        stays_in_hand(rt, alloc, &mut bench)
-    }
-}
-
-// the sequence is closed at 0: the set comes back with that number
-fn is_closed<L: Hall, R: Wait + Abort>(
-    rt: &R,
-    alloc: Global,
-    bench: &mut Bench<L>,
-) -> Result<(), Fail> {
-    let publisher = &mut bench.publisher;
-    let first = stage(alloc, publisher, &insert(1))?;
-    assert_eq!(rt; publisher.send(rt, &bench.broker, first).ok(), Some(1));
-    let set = stage(alloc, publisher, &insert(2))?;
-    for _ in 0..2 {
-        assert_eq!(rt; bench.broker.close(rt).map(|told| told.last()), Some(0));
-    }
-    let Err(SendRefusal::Closed(last, set)) = publisher.send(rt, &bench.broker, set) else {
-        return Err(Fail::new("the sequence is closed"));
-    };
-    assert_eq!(rt; (last.last(), set.publisher(), publisher.sent()), (0, 0, 1));
-    Ok(())
-}
-
-// what was sent before the end isn't placed after it
-fn stays_in_hand<L: Hall, R: Wait + Abort>(
-    rt: &R,
-    alloc: Global,
-    bench: &mut Bench<L>,
-) -> Result<(), Fail> {
-    let turn = bench.sequencer.turn(rt, alloc, &bench.broker);
-    let Turn::Refused(PlaceRefusal::Closed(told)) = turn else {
-        return Err(Fail::new("the sequence is closed"));
-    };
-    assert_eq!(rt; told.last(), 0);
-    assert_eq!(rt; own_in_hand(&bench.sequencer), Some(1));
-    let (refused, drained) = (PlaceRefusal::Closed(told.again()), TakeError::Drained(told));
-    let said = format!(in alloc; "{refused}, {drained}")?;
-    let text = "the sequence is closed, everything up to the last number is settled";
-    assert_eq!(rt; said.as_str(), text);
-    Ok(())
-}
+// the numbers of a segment
+pub const SEGMENT: u64 = 65_536;

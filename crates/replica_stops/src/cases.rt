@@ -119,7 +119,7 @@ fn created_over(alloc: Global, sql: &str) -> io::Result<Answer> {
     run(&mut conn, sql)?;
     Ok(match Replica::create(conn, one_table(alloc)?) {
         Ok(_) => Answer::Created,
-        Err(error) => Answer::Creating(error),
+        Err(refused) => Answer::Creating(refused.why),
     })
 }
 

@@ -71,7 +71,7 @@ impl Answer {
     pub fn of<S: Alter + Drop>(alloc: Global, conn: Connection<S>) -> io::Result<Answer> {
         let mut replica = match Replica::open(conn, one_table(alloc)?) {
             Ok(replica) => replica,
-            Err(error) => return Ok(Answer::Opening(error)),
+            Err(refused) => return Ok(Answer::Opening(refused.why)),
         };
         Ok(match replica.load(alloc) {
             Ok((tables, cursor)) => Answer::Loaded(tables, cursor),

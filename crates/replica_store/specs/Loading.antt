@@ -74,12 +74,13 @@ pub record PutsBody (key : RowKey) (body : List ℕ) (old new : TableState) : Ty
   pub now : (q : RowKey) → body_at new.rows q
       ≡ (if same_key q key then Some body else body_at old.rows q)
 
--- the tables with what the row of an answer shows
+-- the tables with what the row of an answer shows, which is a row of their schema
 pub record AddsShown (shown : Row) (old new : TableState) : Type 0 where
   pub key : RowKey
-  pub body : List ℕ
-  pub shows : ShowsBody shown key body
-  pub puts : PutsBody key body old new
+  pub row : List Value
+  pub fits : IsSchemaRow old.schema key row
+  pub shows : ShowsBody shown key (row_body row)
+  pub puts : PutsBody key (row_body row) old new
 
 -- the tables have another body for this key
 pub record HasOtherBody (tables : TableState) (key : RowKey) (body : List ℕ) : Type 0 where

@@ -15,6 +15,8 @@ impl<S: Alter> DurableRows for Replica<S> {
     ghost leaves = { λ r first at second later.
         LeavesEither (state S.Store r.conn) first at second later };
 
+    ghost failed = { λ _. Unit {0} };
+
     type Error = ReplicaError;
 
     /// `Replica::commit`. Answers `Store` for a cursor that SQLite can't store, of 2^63 or more.

@@ -1,6 +1,6 @@
 //! What holds of a replica over a restart.
 
-ghost use Rattle.std.specs.{Prelude.{ℕ, ◌<◌, ◌^◌, IfSome}, List.{IsDistinct}, Map.{keys_of}};
+ghost use Rattle.std.specs.{Prelude.{ℕ, ◌<◌, ◌^◌, IfSome, OnOk}, List.{IsDistinct}, Map.{keys_of}};
 ghost use Rattle.cs_apply.specs.{SameKey.{same_key}, State.{Rows}};
 ghost use Rattle.par_apply.specs.RowChanges.{RowChanges, overlaid};
 ghost use Rattle.sqlite.specs.{Held.{state}, State.{HasCleanDisk}, Tree.{Trees}};
@@ -8,9 +8,10 @@ ghost use Rattle.replica_store.specs.{
   Changes.{Commits},
   Loading.{TableBodies},
   Picture.{AreSameRows, HoldsReplica, Stores},
-  Steps.{WhereClean, HoldsOneOf},
+  Steps.{WhereClean, HoldsCommit, HoldsOneOf},
 };
 
+use crate::error::ReplicaError;
 use crate::replica::Replica;
 use cs_model::Schema;
 use par_apply::RowChange;
@@ -29,20 +30,23 @@ pub fn tables_follow()
 {}
 
 /// Commits, loses the machine, and opens the replica again. Its rows and its cursor are those from
-/// before the commit, or those after it, both together, whatever `commit` returned.
+/// before the commit, or those after it, both together; after `Ok`, those after it. Returns what
+/// `commit` returned, too.
 pub fn commit_and_crash<S: Alter + Reopen + Drop>(
     alloc: Global,
     mut replica: Replica<S>,
     changes: &[RowChange],
     cursor: u64,
-) -> Option<Replica<S>>
+) -> (Result<(), ReplicaError>, Option<Replica<S>>)
     requires held { WhereClean HoldsReplica (state S.Store replica.conn) }
     requires below { cursor < 2 ^ 63 }
-    ensures { IfSome result (λ again. WhereClean
+    ensures either { IfSome result.1 (λ again. WhereClean
         (HoldsOneOf changes.now cursor (state S.Store replica.conn)) (state S.Store again.conn)) }
+    ensures stands { OnOk result.0 (IfSome result.1 (λ again. WhereClean
+        (HoldsCommit changes.now cursor (state S.Store replica.conn)) (state S.Store again.conn))) }
 {
-    let _ = replica.commit(changes, cursor);
-    crash_and_open(alloc, replica)
+    let answer = replica.commit(changes, cursor);
+    (answer, crash_and_open(alloc, replica))
 }
 
 /// Loses the machine, and opens the replica again. What it has then is what a crash may leave.
@@ -81,20 +85,23 @@ fn crash_and_reopen<S: Alter + Reopen + Drop>(
 }
 
 /// Commits, and opens the replica again, without a crash. Its rows and its cursor are those from
-/// before the commit, or those after it, both together, whatever `commit` returned.
+/// before the commit, or those after it, both together; after `Ok`, those after it. Returns what
+/// `commit` returned, too.
 pub fn commit_and_open<S: Alter + Drop>(
     mut replica: Replica<S>,
     changes: &[RowChange],
     cursor: u64,
-) -> Option<Replica<S>>
+) -> (Result<(), ReplicaError>, Option<Replica<S>>)
     requires held { WhereClean HoldsReplica (state S.Store replica.conn) }
     requires below { cursor < 2 ^ 63 }
-    ensures { IfSome result (λ again. WhereClean
+    ensures either { IfSome result.1 (λ again. WhereClean
         (HoldsOneOf changes.now cursor (state S.Store replica.conn)) (state S.Store again.conn)) }
+    ensures stands { OnOk result.0 (IfSome result.1 (λ again. WhereClean
+        (HoldsCommit changes.now cursor (state S.Store replica.conn)) (state S.Store again.conn))) }
 {
-    let _ = replica.commit(changes, cursor);
+    let answer = replica.commit(changes, cursor);
     let (conn, schema) = replica.into_parts();
-    open_again(conn, schema)
+    (answer, open_again(conn, schema))
 }
 
 // What is committed over an open connection is what a crash leaves.

@@ -17,4 +17,4 @@ mod replica;
 mod stored_row;
 
 pub use error::ReplicaError;
-pub use replica::Replica;
+pub use replica::{RefusedConnection, Replica};

@@ -23,6 +23,7 @@ pub(crate) fn tables_of(
     answer: &[sqlite::Row],
 ) -> Result<Tables, ReplicaError>
     ensures loads { IfOk result (LoadsRows (arc_value schema.now) (ShownBodies answer.now)) }
+    ensures fits { OnOk result (AreSchemaRows (arc_value schema.now) (ShownBodies answer.now)) }
     ensures unusable { result ≡ Err Unusable → AllShow answer.now
         → AreSchemaRows (arc_value schema.now) (ShownBodies answer.now) → ⊥ }
     ensures named { result ≡ Err Store → ⊥ }

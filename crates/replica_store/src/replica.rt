@@ -1,6 +1,7 @@
 //! `Replica`: a connection to a replica's database.
 
-ghost use Rattle.std.specs.{Prelude.{◌≡◌, ◌≢◌, ◌⊎◌, ◌<◌, ◌^◌, IfOk, IfErr, Err}, Arc.{arc_value}};
+ghost use Rattle.std.specs.Prelude.{◌≡◌, ◌≢◌, ◌⊎◌, ◌<◌, ◌^◌, IfOk, IfErr, OnOk, Err};
+ghost use Rattle.std.specs.Arc.{arc_value};
 ghost use Rattle.std.specs.FinMap as map;
 ghost use Rattle.sqlite.specs.{
   Held.{state},
@@ -9,10 +10,10 @@ ghost use Rattle.sqlite.specs.{
 };
 ghost use Rattle.replica_store.specs.{
   Changes.{Commits},
-  Layout.{empty_schema},
+  Layout.{empty_schema, replica_schema},
   Durable.{KeepsRows},
   Loading.{LoadsRows, AreSchemaRows},
-  Picture.{HasCursor, HoldsReplica, IsNewReplica, Stores},
+  Picture.{HasCursor, HoldsReplica, IsNewReplica, IsReplica, Stores},
   Steps.{
     WhereClean,
     Reaches,
@@ -39,6 +40,21 @@ use sqlite::{Alter, Connection};
 use std::alloc::Global;
 use std::sync::Arc;
 
+/// A connection that `Replica::create` or `Replica::open` hands back, and why.
+#[derive(Drop)]
+pub struct RefusedConnection<S: Alter> {
+    pub why: ReplicaError,
+    pub conn: Connection<S>,
+}
+
+impl<S: Alter + Drop> From<RefusedConnection<S>> for ReplicaError {
+    ghost from_gives = { λ refused e. e ≡ refused.why };
+
+    fn from(refused: RefusedConnection<S>) -> ReplicaError {
+        refused.why
+    }
+}
+
 /// A subscriber's rows and its cursor in a database. What its contracts say of the database holds
 /// where nobody else writes it and the disk returns what was written.
 #[derive(Drop)]
@@ -49,34 +65,51 @@ pub struct Replica<S: Alter> {
 
 impl<S: Alter + Drop> Replica<S> {
     /// Makes a replica without rows, with cursor 0, in a database without tables. It is one
-    /// transaction: a crash leaves the database as it was, or the whole replica. Answers `Store` if
-    /// anything is in the database's schema, or a transaction is open.
-    pub fn create(mut conn: Connection<S>, schema: Arc<Schema>) -> Result<Replica<S>, ReplicaError>
+    /// transaction: a crash leaves the database as it was, or the whole replica, after an error
+    /// too. Answers `Store` if anything is in the database's schema, or a transaction is open.
+    pub fn create(
+        mut conn: Connection<S>,
+        schema: Arc<Schema>,
+    ) -> Result<Replica<S>, RefusedConnection<S>>
         ensures blank { IfOk result (λ r. (conn.schema ≡ empty_schema) × (r.schema ≡ schema)) }
         ensures made { IfOk result (λ r. WhereClean HoldsNew (state S.Store r.conn)) }
         ensures stands { IfOk result (λ r. WhereClean LeavesCommitted (state S.Store r.conn)) }
         ensures survives { IfOk result (λ r.
             Survives (state S.Store conn) (state S.Store r.conn) IsNewReplica) }
         ensures keeps { IfOk result (λ r. KeepsRows (state S.Store r.conn) map.empty 0) }
-        ensures named { IfErr result (λ e. e ≢ Unusable) }
+        ensures named { IfErr result (λ refused. refused.why ≢ Unusable) }
+        ensures refused { IfErr result (λ refused.
+            Survives (state S.Store conn) (state S.Store refused.conn) IsNewReplica) }
     {
-        reported(create_once(&mut conn))?;
-        Ok(Replica { conn, schema })
+        match reported(create_once(&mut conn)) {
+            Ok(()) => Ok(Replica { conn, schema }),
+            Err(why) => Err(RefusedConnection { why, conn }),
+        }
     }
 
     /// Opens the replica that a database holds. No statement writes. Answers `Unusable` if the
     /// database's tables or its mark aren't those of a replica; `load` tests the rows' bodies.
-    pub fn open(conn: Connection<S>, schema: Arc<Schema>) -> Result<Replica<S>, ReplicaError>
+    pub fn open(
+        conn: Connection<S>,
+        schema: Arc<Schema>,
+    ) -> Result<Replica<S>, RefusedConnection<S>>
         ensures held { IfOk result (λ r. HasCleanDisk (state S.Store r.conn)
             → HoldsReplica (state S.Store r.conn)
             × IsUnchanged (state S.Store conn) (state S.Store r.conn)) }
         ensures survives { IfOk result (λ r.
             AddsNone (state S.Store conn) (state S.Store r.conn)) }
         ensures same_schema { IfOk result (λ r. r.schema ≡ schema) }
+        ensures refused { IfErr result (λ refused.
+            AddsNone (state S.Store conn) (state S.Store refused.conn)) }
+        ensures unusable { IfErr result (λ refused. HasCleanDisk (state S.Store refused.conn)
+            → refused.why ≡ Unusable → conn.schema ≡ replica_schema
+            → IsReplica (state S.Store conn).now.trees → ⊥) }
     {
         let mut conn = with_columns(conn);
-        check(&mut conn)?;
-        Ok(Replica { conn, schema })
+        match check(&mut conn) {
+            Ok(()) => Ok(Replica { conn, schema }),
+            Err(why) => Err(RefusedConnection { why, conn }),
+        }
     }
 }
 
@@ -130,6 +163,9 @@ impl<S: Alter> Replica<S> {
             (Stores (state S.Store self.old.conn).committed.trees) r.0) }
         ensures stored { HasCleanDisk (state S.Store self.new.conn) → IfOk result (λ r.
             HasCursor (state S.Store self.old.conn).committed.trees r.1) }
+        ensures fits { HasCleanDisk (state S.Store self.new.conn) → OnOk result
+            (AreSchemaRows (arc_value self.old.schema)
+            (Stores (state S.Store self.old.conn).committed.trees)) }
         ensures unusable { HasCleanDisk (state S.Store self.new.conn) → result ≡ Err Unusable
             → AreSchemaRows (arc_value self.old.schema)
             (Stores (state S.Store self.old.conn).committed.trees) → ⊥ }
@@ -149,6 +185,9 @@ impl<S: Alter> Replica<S> {
         requires { WhereClean HoldsReplica (state S.Store self.old.conn) }
         ensures rows { HasCleanDisk (state S.Store self.new.conn) → IfOk result
             (LoadsRows (arc_value self.old.schema)
+            (Stores (state S.Store self.old.conn).committed.trees)) }
+        ensures fits { HasCleanDisk (state S.Store self.new.conn) → OnOk result
+            (AreSchemaRows (arc_value self.old.schema)
             (Stores (state S.Store self.old.conn).committed.trees)) }
         ensures unusable { HasCleanDisk (state S.Store self.new.conn) → result ≡ Err Unusable
             → AreSchemaRows (arc_value self.old.schema)

@@ -36,6 +36,15 @@ added_at (e ∷ es) (suc i) s d old new lt hit before at is =
     ∙ ap (λ b. cond b ((e.0, e.1.items ++ s ∷ []) ∷ seen es)
     ((e.0, e.1.items) ∷ added (seen es) s)) (sym first)
 
+-- a group that keeps its sections
+pub group_kept : (es : List (Shape × Vec Section)) (i : ℕ) (old new : Vec Section)
+    → slice_get (values_of es) i ≡ Some old → new.items ≡ old.items → seen (set_value_at es i new) ≡ seen es
+group_kept [] i old new at is = refl
+group_kept (e ∷ es) zero old new at is =
+    let same : e.1 ≡ old = cc in
+    ap (λ (g : List Section). (e.0, g) ∷ seen es) (is ∙ ap (λ (v : Vec Section). v.items) (sym same))
+group_kept (e ∷ es) (suc i) old new at is = ap (λ gs. (e.0, e.1.items) ∷ gs) (group_kept es i old new at is)
+
 pub added_new : (es : List (Shape × Vec Section)) (s : Section) (new : Vec Section)
     → lookup (same_shape s.shape) es ≡ None → new.items ≡ s ∷ []
     → seen (es ++ (s.shape, new) ∷ []) ≡ added (seen es) s

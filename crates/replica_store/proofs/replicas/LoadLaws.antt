@@ -109,26 +109,53 @@ loads_one_more schema done x old new l a = record {
     earlier : (key : RowKey) (body : List ℕ) → body_at old.rows key ≡ Some body → body_at new.rows key ≡ Some body
     earlier key body h = a.puts.now key ∙ by (same_key key a.key) refl
       where
-        by : (b : Bool) → same_key key a.key ≡ b → cond b (Some a.body) (body_at old.rows key) ≡ Some body
+        by : (b : Bool) → same_key key a.key ≡ b → cond b (Some (row_body a.row)) (body_at old.rows key) ≡ Some body
         by true same = ap (λ v. Some v) (sym (a.puts.was body (ap (body_at old.rows) (sym (exact key a.key same)) ∙ h)))
         by false other = h
 
     newest : (key : RowKey) (body : List ℕ) → ShowsBody x key body → body_at new.rows key ≡ Some body
     newest key body s =
-        let one = shows_one x a.key key a.body body a.shows s in
-        a.puts.now key ∙ (rw one.0 (ap (λ b. cond b (Some a.body) (body_at old.rows a.key)) (laws.refl a.key)))
+        let one = shows_one x a.key key (row_body a.row) body a.shows s in
+        a.puts.now key ∙ (rw one.0 (ap (λ b. cond b (Some (row_body a.row)) (body_at old.rows a.key)) (laws.refl a.key)))
         ∙ ap (λ v. Some v) (sym one.1)
 
     back : (key : RowKey) (body : List ℕ) (b : Bool) → same_key key a.key ≡ b
-        → cond b (Some a.body) (body_at old.rows key) ≡ Some body
+        → cond b (Some (row_body a.row)) (body_at old.rows key) ≡ Some body
         → (shown : Row) × Has (done ++ x ∷ []) shown × ShowsBody shown key body
     back key body true same h = (
       x,
       has_right done (x ∷ []) x (inl refl),
       subst (λ v. ShowsBody x key v) (some_body h)
-          (subst (λ k. ShowsBody x k a.body) (sym (exact key a.key same)) a.shows),
+          (subst (λ k. ShowsBody x k (row_body a.row)) (sym (exact key a.key same)) a.shows),
     )
     back key body false other h = let s = (l.rows_are key body).1 h in (s.0, has_left done (x ∷ []) s.0 s.1, s.2)
+
+pub none_are_rows : (schema : List Shape) → AreSchemaRows schema (ShownBodies [])
+none_are_rows schema = record { each = λ key body s. absurd s.1; once = λ key first second s t. absurd s.1 }
+
+pub rows_one_more : (schema : List Shape) (done : List Row) (x : Row) (old new : TableState)
+    → LoadsRows schema (ShownBodies done) old → AreSchemaRows schema (ShownBodies done) → AddsShown x old new
+    → AreSchemaRows schema (ShownBodies (done ++ x ∷ []))
+rows_one_more schema done x old new l are a = record {
+  each = λ key body s. elim (has_either_part done x s.0 s.1) [
+    | inl there ↦ are.each key body (s.0, there, s.2)
+    | inr last ↦ newest key body (subst (λ y. ShowsBody y key body) last s.2)
+  ];
+  once = λ key first second one two. some_body (sym ((more.rows_are key first).0 one) ∙ (more.rows_are key second).0 two);
+}
+  where
+    more : LoadsRows schema (ShownBodies (done ++ x ∷ [])) new
+    more = loads_one_more schema done x old new l a
+
+    newest : (key : RowKey) (body : List ℕ) → ShowsBody x key body
+        → (row : List Value) × (body ≡ row_body row) × IsSchemaRow schema key row
+    newest key body s =
+        let one = shows_one x a.key key (row_body a.row) body a.shows s in (
+          a.row,
+          one.1,
+          subst (λ k. IsSchemaRow schema k a.row) (sym one.0)
+              (subst (λ (t : List Shape). IsSchemaRow t a.key a.row) l.schema_is a.fits),
+        )
 
 -- a row that can't be added shows that the answer is not rows of the schema
 pub never_rows : (schema : List Shape) (done all : List Row) (x : Row) (tables : TableState)

@@ -1,4 +1,4 @@
-use Rattle.std.proofs.Common.{◌≡◌, ◌<◌, ◌++◌, ◌∷◌, [], length, None, Some, slice_get, sym, ap, subst, ◌∙◌, arith}
+use Rattle.std.proofs.Common.{◌≡◌, ◌<◌, ◌++◌, ◌∷◌, [], length, None, Some, slice_get, sym, ap, subst, ◌∙◌, arith, rules}
 use Rattle.std.specs.List.{position}
 use Rattle.std.specs.Map.{values_of, lookup}
 use Rattle.std.proofs.lemmas.List.Quantifiers.{position-Some}
@@ -7,7 +7,7 @@ use Rattle.indexmap.proofs.CallerLemmas.{insert_entry-new}
 use Rattle.indexmap.specs.IndexMap.{keys, get}
 use Rattle.cs_model.specs.Schema.{same_shape}
 use Rattle.cs_write.specs.Seen.{seen}
-use Rattle.cs_write.proofs.forms.GroupLaws.{added_at, added_new, unfound}
+use Rattle.cs_write.proofs.forms.GroupLaws.{added_at, added_new, group_kept, unfound}
 use Rattle.cs_write.proofs.groups.add_section.Goals as goal
 
 pub returns-in_ok-push : goal.returns-in_ok-push
@@ -23,6 +23,7 @@ returns-in_ok-push c =
     record {
       ok = added_at m.entries c.in-Some.place s s.shape c.in-Some-get_index_mut.group.now c.push.new.self
           within found.1 found.2 at c.in_ok-push.ensures.items;
+      err = tt;
     }
 
 pub returns : goal.returns
@@ -40,4 +41,11 @@ returns c =
     subst (λ k. get same_shape m k ≡ None) (sym same) none in
     let pushed = c.in_ok-insert.ensures.entries ∙ insert_entry-new same_shape m c.shape-shape.result group absent
     ∙ ap (λ k. m.entries ++ (k, group) ∷ []) same in
-    record { ok = ap seen pushed ∙ added_new m.entries s group none items }
+    record { ok = ap seen pushed ∙ added_new m.entries s group none items; err = tt }
+
+pub returns-in_err-push-clause-err : goal.returns-in_err-push-clause-err
+returns-in_err-push-clause-err c =
+    let m = c.args.groups.now in
+    let kept = group_kept m.entries c.in-Some.place c.in-Some-get_index_mut.group.now c.push.new.self
+    (sym c.in-Some-get_index_mut.ensures.value) c.in_err-push.ensures.items in
+    search rules

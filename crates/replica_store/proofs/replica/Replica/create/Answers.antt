@@ -6,8 +6,8 @@ use Rattle.replica_store.specs.Picture.{HoldsReplica, IsNewReplica}
 use Rattle.replica_store.proofs.replicas.DurableLaws.{committed_rows_stand, new_has_no_rows}
 use Rattle.replica_store.proofs.replica.Replica.create.Goals as goal
 
-pub returns-clause-keeps : goal.returns-clause-keeps
-returns-clause-keeps g c clean =
+pub returns-in-Ok-clause-keeps : goal.returns-in-Ok-clause-keeps
+returns-in-Ok-clause-keeps g c clean =
     let new = state g.S.Store c.create_once.new.conn in
     let made : HoldsReplica new × IsNewReplica new.committed.trees = search rules in
     let stands : (db : Trees) → new.may_leave db → db ≡ new.committed.trees = search rules in

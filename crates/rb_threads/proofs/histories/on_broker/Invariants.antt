@@ -1,0 +1,11 @@
+use Rattle.rb_threads.proofs.histories.on_broker.Given as goal
+
+-- the hall of the broker that was just opened
+abbrev pub ghosts-goes-L-Ledger : goal.ghosts-goes-L-Ledger
+ghosts-goes-L-Ledger g a = record { name = a.opened.ledger; parts = 1024 }
+
+abbrev pub ghosts-goes-L-StepLedger : goal.ghosts-goes-L-StepLedger
+ghosts-goes-L-StepLedger g a = record { all = 1024; cells = a.opened.cells }
+
+abbrev pub ghosts-goes-L-Hall : goal.ghosts-goes-L-Hall
+ghosts-goes-L-Hall g a = record { queue = a.opened.queue }

@@ -1,0 +1,127 @@
+//! Calls of a history's publishers and of its sequencer.
+
+use crate::given::{delete, insert};
+use crate::history::{History, Said, made};
+use cs_model::Origin;
+use cs_parse::ParseError;
+use rb_broker::{AddRefusal, Hall, PlaceRefusal, SendRefusal, WithdrawRefusal};
+use rb_sequencer::Turn;
+use std::alloc::Global;
+use std::sync::Wait;
+use std::test::Fail;
+
+impl<L: Hall> History<L> {
+    /// Makes the call of this name, if it is one of these.
+    pub fn publish<R: Wait>(
+        &mut self,
+        rt: &R,
+        alloc: Global,
+        name: &str,
+        a: u64,
+        b: u64,
+    ) -> Result<Said, Fail> {
+        match name {
+            "publisher" => self.publisher(alloc),
+            "send" => self.send(rt, alloc, a, &insert(b)),
+            "withdraw" => self.withdraw(rt, alloc, a, b),
+            "turn" => Ok(self.turn(rt, alloc)),
+            "put" => self.put(rt, alloc, &insert(a)),
+            "delete" => self.put(rt, alloc, &delete(a)),
+            "hand" => Ok(self.hand()),
+            "entry" => self.entry(a),
+            "close" => self.close(rt),
+            _ => Ok(Said::Unknown),
+        }
+    }
+
+    // makes one publisher more
+    fn publisher(&mut self, alloc: Global) -> Result<Said, Fail> {
+        self.publishers.reserve(1)?;
+        match self.maker.make(alloc, &self.broker) {
+            Ok(publisher) => {
+                let number = publisher.number();
+                self.publishers.push_reserved(publisher);
+                Ok(Said::Publisher(number))
+            }
+            Err(AddRefusal::Memory) => Ok(Said::Memory),
+            Err(why) => Ok(Said::NoPublisher(why)),
+        }
+    }
+
+    // Sends a changeset by this publisher. If memory runs out, its stream is as it was.
+    fn send<R: Wait>(&mut self, rt: &R, alloc: Global, p: u64, text: &[u8]) -> Result<Said, Fail> {
+        let publisher = made(self.publishers.get_mut(p as usize))?;
+        match publisher.feed(alloc, text) {
+            Ok(()) => {}
+            Err(ParseError::Memory) => return Ok(Said::Memory),
+            Err(why) => return Err(why.into()),
+        }
+        let set = publisher.end(alloc)?;
+        Ok(sent(publisher.send(rt, &self.broker, set)))
+    }
+
+    // sends the withdrawal of an entry by this publisher
+    fn withdraw<R: Wait>(
+        &mut self,
+        rt: &R,
+        alloc: Global,
+        p: u64,
+        number: u64,
+    ) -> Result<Said, Fail> {
+        let publisher = made(self.publishers.get_mut(p as usize))?;
+        match publisher.withdraw(alloc, self.broker.sequence(), number) {
+            Ok(set) => Ok(sent(publisher.send(rt, &self.broker, set))),
+            Err(WithdrawRefusal::Memory) => Ok(Said::Memory),
+            Err(why) => Ok(Said::NotWithdrawn(why)),
+        }
+    }
+
+    // If memory runs out, the item is in hand, and the next turn tries it again.
+    fn turn<R: Wait>(&mut self, rt: &R, alloc: Global) -> Said {
+        match self.sequencer.turn(rt, alloc, &self.broker) {
+            Turn::Placed(told) => Said::Placed(told.number()),
+            Turn::Idle => Said::Idle,
+            Turn::Refused(PlaceRefusal::SequenceFull) => Said::SequenceFull,
+            Turn::Refused(PlaceRefusal::Closed(last)) => Said::Closed(last.last()),
+            Turn::Refused(PlaceRefusal::Memory) => Said::Memory,
+            Turn::Refused(PlaceRefusal::JournalFull | PlaceRefusal::Occupied) => Said::Unknown,
+        }
+    }
+
+    /// Sends a changeset by the first publisher, and places it.
+    pub fn put<R: Wait>(&mut self, rt: &R, alloc: Global, text: &[u8]) -> Result<Said, Fail> {
+        match self.send(rt, alloc, 0, text)? {
+            Said::Sent(_) => {}
+            said => return Ok(said),
+        }
+        match self.turn(rt, alloc) {
+            Said::Memory => Ok(self.turn(rt, alloc)),
+            said => Ok(said),
+        }
+    }
+
+    fn hand(&self) -> Said {
+        Said::Hand(self.sequencer.hand().map(|item| (item.publisher, item.own)))
+    }
+
+    fn entry(&self, number: u64) -> Result<Said, Fail> {
+        let entry = made(self.broker.sequence().get(number))?;
+        Ok(match entry.origin() {
+            Origin::Sent => Said::Sent(entry.own()),
+            Origin::Withdraws(number) => Said::Withdraws(number),
+        })
+    }
+
+    fn close<R: Wait>(&mut self, rt: &R) -> Result<Said, Fail> {
+        let told = made(self.broker.close(rt))?;
+        Ok(Said::Closed(told.last()))
+    }
+}
+
+fn sent<L: Hall>(answer: Result<u64, SendRefusal<L>>) -> Said {
+    match answer {
+        Ok(own) => Said::Sent(own),
+        Err(SendRefusal::Full(_)) => Said::Full,
+        Err(SendRefusal::Closed(last, _)) => Said::Closed(last.last()),
+    }
+}
