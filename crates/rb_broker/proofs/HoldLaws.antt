@@ -1,4 +1,4 @@
--- What one call of the desk leaves of what the lock says of the desk: its capacity, its closing number, how many
+-- What one call of the desk leaves of what the lock says of the desk: its limits, its closing number, how many
 -- subscriptions it has, and how many steps of their own its journal has.
 use Rattle.std.proofs.Common.{◌≡◌, ◌+◌, ◌++◌, ℕ, Bool, true, false, cond, length, Option, Some, None, Result, Ok, Err}
 use Rattle.std.proofs.Common.{refl, sym, ap, ◌∙◌, subst, arith, option_map, IfSome}
@@ -62,34 +62,31 @@ shows_on : (cells : Cells) (old new : JournaledPicture) (more : ℕ) (closing : 
     → ShowsClosing cells old.picture.closing closing → ShowsClosing cells new.picture.closing closing
 shows_on cells old new more closing keeps shows = (shows.0 ∙ sym keeps.frame.closing, shows.1)
 
-capacity_on : (cells : Cells) (old new : JournaledPicture) (more : ℕ) → LockKeeps old new more
-    → old.picture.limits.capacity ≡ cells.capacity → new.picture.limits.capacity ≡ cells.capacity
-capacity_on cells old new more keeps fits = ap (λ (l : Limits). l.capacity) keeps.frame.limits ∙ fits
-
 -- what the lock says of the desk, the closing token and the register
-pub record HoldsSo (cells : Cells) (desk : JournaledPicture) (closing : Option LastToken) (register : RegisterState)
-    : Type 0 where
-  pub fits : desk.picture.limits.capacity ≡ cells.capacity
+pub record HoldsSo (own : Limits) (cells : Cells) (desk : JournaledPicture) (closing : Option LastToken)
+    (register : RegisterState) : Type 0 where
+  pub limits : desk.picture.limits ≡ own
   pub closes : ShowsClosing cells desk.picture.closing closing
   pub total : register.total ≡ counted_steps is_own desk.steps
   pub made : register.made ≡ length desk.picture.subscriptions
 
 -- it goes on, where the register counts what the desk adds
-pub holds_on : (cells : Cells) (old new : JournaledPicture) (more : ℕ) (closing : Option LastToken)
+pub holds_on : (limits : Limits) (cells : Cells) (old new : JournaledPicture) (more : ℕ) (closing : Option LastToken)
     (before after : RegisterState) → LockKeeps old new more → after ≡ record before { total = before.total + more }
-    → HoldsSo cells old closing before → HoldsSo cells new closing after
-holds_on cells old new more closing before after keeps counted h =
+    → HoldsSo limits cells old closing before → HoldsSo limits cells new closing after
+holds_on limits cells old new more closing before after keeps counted h =
     record {
-      fits = capacity_on cells old new more keeps h.fits;
+      limits = keeps.frame.limits ∙ h.limits;
       closes = shows_on cells old new more closing keeps h.closes;
       total = omega (arith, ap (λ (r : RegisterState). r.total) counted, h.total, keeps.own);
       made = ap (λ (r : RegisterState). r.made) counted ∙ h.made ∙ sym keeps.frame.count;
     }
 
 -- the same with what the calls leave alone: the ghost fields of *Locked*
-abbrev pub LockHolds : Cells → JournaledPicture → Cells → Option LastToken → ℕ → RegisterState → Type 0
-LockHolds cells desk filler closing parts register = record {
-  fits : desk.picture.limits.capacity ≡ cells.capacity;
+abbrev pub LockHolds : Limits → Cells → JournaledPicture → Cells → Option LastToken → ℕ → RegisterState → Type 0
+LockHolds own cells desk filler closing parts register = record {
+  limits : desk.picture.limits ≡ own;
+  fits : own.capacity ≡ cells.capacity;
   fills : filler ≡ cells;
   closes : ShowsClosing cells desk.picture.closing closing;
   all : parts ≡ 1024;
@@ -98,27 +95,27 @@ LockHolds cells desk filler closing parts register = record {
 }
 
 -- what the lock says of the desk goes on after a subscription's own step, which the register counts
-pub own_step_holds : {cells filler : Cells} {new : JournaledPicture} {next : Picture} {parts : ℕ}
+pub own_step_holds : {limits : Limits} {cells filler : Cells} {new : JournaledPicture} {next : Picture} {parts : ℕ}
     {before after : RegisterState} (old : JournaledPicture) (step : Step) (closing : Option LastToken) → CountsOwn
     → KeepsFrame old.picture next → new ≡ journaled old step next
     → after ≡ record before { total = before.total + cond (is_own step) 1 0 }
-    → old.picture.limits.capacity ≡ cells.capacity → filler ≡ cells → ShowsClosing cells old.picture.closing closing
-    → parts ≡ 1024 → before.total ≡ counted_steps is_own old.steps → before.made ≡ length old.picture.subscriptions
-    → LockHolds cells new filler closing parts after
-own_step_holds {cells} {filler} {new} {next} {parts} {before} {after} old step closing counts frame is counted fits fills
-    closes all total made =
+    → old.picture.limits ≡ limits → limits.capacity ≡ cells.capacity → filler ≡ cells
+    → ShowsClosing cells old.picture.closing closing → parts ≡ 1024 → before.total ≡ counted_steps is_own old.steps
+    → before.made ≡ length old.picture.subscriptions → LockHolds limits cells new filler closing parts after
+own_step_holds {limits} {cells} {filler} {new} {next} {parts} {before} {after} old step closing counts frame is counted
+    under fits fills closes all total made =
     let keeps = step_keeps old new step next counts frame is in
-    let k = holds_on cells old new _ closing before after keeps counted
-    (record { fits = fits; closes = closes; total = total; made = made }) in
-    record { fits = k.fits; fills = fills; closes = k.closes; all = all; total = k.total; made = k.made }
+    let k = holds_on limits cells old new _ closing before after keeps counted
+    (record { limits = under; closes = closes; total = total; made = made }) in
+    record { limits = k.limits; fits = fits; fills = fills; closes = k.closes; all = all; total = k.total; made = k.made }
 
 -- so it does where the desk adds none
-pub holds_still : (cells : Cells) (old new : JournaledPicture) (more : ℕ) (closing : Option LastToken)
+pub holds_still : (limits : Limits) (cells : Cells) (old new : JournaledPicture) (more : ℕ) (closing : Option LastToken)
     (register : RegisterState) → LockKeeps old new more → more ≡ 0
-    → HoldsSo cells old closing register → HoldsSo cells new closing register
-holds_still cells old new more closing register keeps none h =
+    → HoldsSo limits cells old closing register → HoldsSo limits cells new closing register
+holds_still limits cells old new more closing register keeps none h =
     record {
-      fits = capacity_on cells old new more keeps h.fits;
+      limits = keeps.frame.limits ∙ h.limits;
       closes = shows_on cells old new more closing keeps h.closes;
       total = omega (arith, h.total, keeps.own, none);
       made = h.made ∙ sym keeps.frame.count;
@@ -130,19 +127,19 @@ none_more (Ok answer) step not_own = ap (λ b. cond b 1 0) not_own
 none_more (Err error) step not_own = refl
 
 -- so it does after a call that makes no such step, whatever it returns: the register counts none
-pub other_call_holds : {A : Type 0} {cells filler : Cells} {next : Picture} {parts : ℕ} {register : RegisterState}
-    (old new : JournaledPicture) (step : Step) (closing : Option LastToken) (result : Result A DeskError)
+pub other_call_holds : {A : Type 0} {limits : Limits} {cells filler : Cells} {next : Picture} {parts : ℕ}
+    {register : RegisterState} (old new : JournaledPicture) (step : Step) (closing : Option LastToken) (result : Result A DeskError)
     (answer : Result A DeskRefusal) → CountsOwn → KeepsFrame old.picture next
     → JournalAnswers result (answer, next) step old new → is_own step ≡ false
-    → old.picture.limits.capacity ≡ cells.capacity → filler ≡ cells → ShowsClosing cells old.picture.closing closing
-    → parts ≡ 1024 → register.total ≡ counted_steps is_own old.steps → register.made ≡ length old.picture.subscriptions
-    → LockHolds cells new filler closing parts register
-other_call_holds {A} {cells} {filler} {next} {parts} {register} old new step closing result answer counts frame
-    answers not_own fits fills closes all total made =
+    → old.picture.limits ≡ limits → limits.capacity ≡ cells.capacity → filler ≡ cells
+    → ShowsClosing cells old.picture.closing closing → parts ≡ 1024 → register.total ≡ counted_steps is_own old.steps
+    → register.made ≡ length old.picture.subscriptions → LockHolds limits cells new filler closing parts register
+other_call_holds {A} {limits} {cells} {filler} {next} {parts} {register} old new step closing result answer counts frame
+    answers not_own under fits fills closes all total made =
     let keeps = call_keeps result (answer, next) step old new counts frame answers in
-    let k = holds_still cells old new (own_steps result step) closing register keeps (none_more result step not_own)
-    (record { fits = fits; closes = closes; total = total; made = made }) in
-    record { fits = k.fits; fills = fills; closes = k.closes; all = all; total = k.total; made = k.made }
+    let k = holds_still limits cells old new (own_steps result step) closing register keeps (none_more result step not_own)
+    (record { limits = under; closes = closes; total = total; made = made }) in
+    record { limits = k.limits; fits = fits; fills = fills; closes = k.closes; all = all; total = k.total; made = k.made }
 
 -- an Ok that comes after so many steps is the call's own
 pub answered : {A : Type 0} (steps : ℕ) (r : Result A DeskRefusal) (a : A) → answer_after steps r ≡ Ok a → r ≡ Ok a

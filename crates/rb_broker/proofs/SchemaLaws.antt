@@ -6,10 +6,11 @@ use Rattle.std.proofs.lemmas.Slice.Eq.{slice_eq-Decides}
 use Rattle.cs_model.specs.Schema.{same_bytes, same_shape}
 use Rattle.cs_model.specs.declared.shape.Shape.{Shape}
 use Rattle.cs_apply.specs.State.{TableState}
-use Rattle.rb_desk.specs.Journaled.{IsReplay, JournaledPicture}
+use Rattle.rb_desk.specs.Journaled.{JournaledPicture}
+use Rattle.rb_desk.specs.Limits.{Limits}
 use Rattle.rb_desk.specs.declared.refusal.DeskError.TheVariants.{Memory, Refused}
 use Rattle.rb_subscriber.specs.Subscription.{SubscriptionState}
-use Rattle.rb_broker.specs.Holding.{IsSchemaWhy, RefusesTables, RefusesAsDesk, MakesSubscription}
+use Rattle.rb_broker.specs.Holding.{IsDeskOf, IsSchemaWhy, MakesSubscription, RefusesAsDesk, RefusesTables}
 use Rattle.rb_broker.specs.Holding.{RefusesAfterDesk, SubscribesAfterDesk}
 use Rattle.rb_broker.specs.declared.refusal.RefusedSubscription.{RefusedSubscription}
 use Rattle.rb_broker.specs.declared.refusal.SubscribeError.{SubscribeError}
@@ -58,14 +59,14 @@ tables_come_back (Err refused) base own start old new same h =
     (h.0, why_is base own refused.why start old new same h.1)
 
 -- what the hold returns is what its desk returns
-why_after : (why : SubscribeError) (start : ℕ) (old new : JournaledPicture) → IsReplay old
-    → RefusesAsDesk why start old new → RefusesAfterDesk why start
-why_after OtherSchema start old new replay h = tt
-why_after (Desk Memory) start old new replay h = tt
-why_after (Desk (Refused why)) start old new replay h = (old, new, replay, h)
+why_after : (limits : Limits) (why : SubscribeError) (start : ℕ) (old new : JournaledPicture) → IsDeskOf limits old
+    → RefusesAsDesk why start old new → RefusesAfterDesk limits why start
+why_after limits OtherSchema start old new held h = tt
+why_after limits (Desk Memory) start old new held h = tt
+why_after limits (Desk (Refused why)) start old new held h = (old, new, held, h)
 
-pub subscribes_after : (result : Result SubscriptionState RefusedSubscription) (base : TableState) (start : ℕ)
-    (old new : JournaledPicture) → IsReplay old → MakesSubscription result base start old new
-    → SubscribesAfterDesk result start
-subscribes_after (Ok s) base start old new replay h = (old, new, replay, h.1)
-subscribes_after (Err refused) base start old new replay h = why_after refused.why start old new replay h.1
+pub subscribes_after : (limits : Limits) (result : Result SubscriptionState RefusedSubscription) (base : TableState)
+    (start : ℕ) (old new : JournaledPicture) → IsDeskOf limits old → MakesSubscription result base start old new
+    → SubscribesAfterDesk limits result start
+subscribes_after limits (Ok s) base start old new held h = (old, new, held, h.1)
+subscribes_after limits (Err refused) base start old new held h = why_after limits refused.why start old new held h.1

@@ -1,25 +1,43 @@
--- Why an item isn't placed, and what that tells of the desk.
-use Rattle.std.proofs.Common.{Result, Ok, Err}
-use Rattle.std.specs.Prelude.{IfErr}
-use Rattle.rb_desk.specs.Journaled.{IsReplay, JournaledPicture}
-use Rattle.rb_sequence.specs.Cells.{Cells, CellToken}
+-- What a placing and a closing tell of the desk.
+use Rattle.std.proofs.Common.{◌∙◌, ℕ, Option, Some, None, Result, Ok, Err, ap, sym}
+use Rattle.std.specs.Prelude.{IfErr, IfOk, IfSome}
+use Rattle.rb_desk.specs.Journaled.{JournaledPicture}
+use Rattle.rb_desk.specs.Limits.{Limits}
+use Rattle.rb_sequence.specs.Cells.{Cells, CellToken, LastToken}
 use Rattle.rb_sequence.specs.Entry.{Entry}
 use Rattle.rb_broker.specs.declared.refusal.PlaceRefusal.{PlaceRefusal}
 use Rattle.rb_broker.specs.declared.refusal.PlaceRefusal.TheVariants.{JournalFull}
 use Rattle.rb_broker.specs.declared.refusal.PlaceRefusal.TheVariants.{Closed, SequenceFull}
 use Rattle.rb_broker.specs.declared.refusal.PlaceRefusal.TheVariants.{Occupied, Memory}
 use Rattle.rb_broker.specs.declared.refusal.RefusedItem.{RefusedItem}
-use Rattle.rb_broker.specs.Placing.{DeskRefuses, PlacesEntry, RefusesPlace}
+use Rattle.rb_broker.specs.Holding.{IsDeskOf}
+use Rattle.rb_broker.specs.Placing.{ClosesBoth, DeskCloses, DeskPlaces, DeskRefuses, PlacesEntry, RefusesPlace}
 
-pub told_of_desk : (cells : Cells) (desk : JournaledPicture) (why : PlaceRefusal) → IsReplay desk
-    → RefusesPlace cells desk why → DeskRefuses cells why
-told_of_desk cells desk JournalFull replay is = (desk, replay, is)
-told_of_desk cells desk (Closed told) replay is = (desk, replay, is)
-told_of_desk cells desk SequenceFull replay is = (desk, replay, is)
-told_of_desk cells desk Occupied replay is = tt
-told_of_desk cells desk Memory replay is = tt
+pub told_of_desk : (limits : Limits) (cells : Cells) (desk : JournaledPicture) (why : PlaceRefusal)
+    → IsDeskOf limits desk → RefusesPlace cells desk why → DeskRefuses limits cells why
+told_of_desk limits cells desk JournalFull held is = (desk, held, is)
+told_of_desk limits cells desk (Closed told) held is = (desk, held, is)
+told_of_desk limits cells desk SequenceFull held is = (desk, held, is)
+told_of_desk limits cells desk Occupied held is = tt
+told_of_desk limits cells desk Memory held is = tt
 
-pub placing_refuses : (result : Result CellToken RefusedItem) (cells : Cells) (entry : Entry) (old new : JournaledPicture)
-    → IsReplay old → PlacesEntry result cells entry old new → IfErr result (λ refused. DeskRefuses cells refused.why)
-placing_refuses (Ok told) cells entry old new replay is = tt
-placing_refuses (Err refused) cells entry old new replay is = told_of_desk cells old refused.why replay is.1
+pub placing_refuses : (limits : Limits) (result : Result CellToken RefusedItem) (cells : Cells) (entry : Entry)
+    (old new : JournaledPicture) → IsDeskOf limits old → PlacesEntry result cells entry old new
+    → IfErr result (λ refused. DeskRefuses limits cells refused.why)
+placing_refuses limits (Ok told) cells entry old new held is = tt
+placing_refuses limits (Err refused) cells entry old new held is =
+    told_of_desk limits cells old refused.why held is.1
+
+-- the desk has placed the number that the token shows
+pub placing_places : (limits : Limits) (result : Result CellToken RefusedItem) (cells : Cells) (entry : Entry)
+    (old new : JournaledPicture) → IsDeskOf limits old → PlacesEntry result cells entry old new
+    → IfOk result (λ told. DeskPlaces limits told.number)
+placing_places limits (Ok told) cells entry old new held is =
+    (old, held, is.1 ∙ ap (λ (n : ℕ). Ok n) (sym is.0.number))
+placing_places limits (Err refused) cells entry old new held is = tt
+
+-- the token shows the number at which the desk is closed
+pub closing_told : (limits : Limits) (result : Option LastToken) (cells : Cells) (old new : JournaledPicture)
+    → IsDeskOf limits old → ClosesBoth result cells old new → IfSome result (DeskCloses limits)
+closing_told limits (Some told) cells old new held closes = (old, held, closes.1)
+closing_told limits None cells old new held closes = tt

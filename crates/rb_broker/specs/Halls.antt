@@ -1,7 +1,7 @@
 -- What a new broker's parts share, and what stands for it before a broker is opened.
 use Rattle.std.specs.Prelude.{ℕ, List, []}
 use Rattle.cs_model.specs.declared.shape.Shape.{Shape}
-use Rattle.rb_desk.specs.Limits.{Limits}
+use Rattle.rb_desk.specs.Limits.{Limits, six_limits}
 use Rattle.atomic_table.specs.Seated.{TableId}
 use Rattle.rb_sequence.specs.Cells.{Cells}
 
@@ -16,6 +16,9 @@ pub record OpenedParts : Type 0 where
   pub ledger : ℕ
 
 -- no broker's
+abbrev pub no_limits : Limits
+no_limits = six_limits 0 0 0 0 0 0
+
 abbrev pub no_queue : TableId
 no_queue = record {
   words = 0;

@@ -1,9 +1,10 @@
 -- What one hold of the broker's lock does for a subscription.
-use Rattle.std.specs.Prelude.{◌≡◌, ◌+◌, ℕ, true, List, Option, Some, Result, Ok, Err}
+use Rattle.std.specs.Prelude.{◌≡◌, ◌+◌, ℕ, length, true, List, Option, Some, Result, Ok, Err}
 use Rattle.cs_apply.specs.State as tables
 use Rattle.cs_model.specs.declared.shape.Shape.{Shape}
 use Rattle.rb_desk.specs.Calls.{subscribe}
 use Rattle.rb_desk.specs.Journaled.{IsReplay, JournalAnswers, JournaledPicture}
+use Rattle.rb_desk.specs.Limits.{Limits}
 use Rattle.rb_desk.specs.Picture.{Picture}
 use Rattle.rb_desk.specs.declared.delivery.Delivery.{Delivery}
 use Rattle.rb_desk.specs.declared.refusal.DeskError.{DeskError}
@@ -13,6 +14,7 @@ use Rattle.rb_desk.specs.declared.refusal.DeskRefusal.TheVariants as desk
 use Rattle.rb_desk.specs.declared.step.Step.{Step}
 use Rattle.rb_desk.specs.declared.step.Step.TheVariants.{Subscribe}
 use Rattle.rb_sequence.specs.Cells.{Cells, IsLastToken}
+use Rattle.rb_subscriber.specs.Register.{AuditorState, all_steps}
 use Rattle.rb_subscriber.specs.Subscription.{SubscriptionState, new_subscription}
 use Rattle.rb_broker.specs.declared.refusal.RefusedSubscription.{RefusedSubscription}
 use Rattle.rb_broker.specs.declared.refusal.SubscribeError.{SubscribeError}
@@ -33,11 +35,16 @@ ended_step s = record (counted_step s) { closed = true }
 
 -- ---- what a call shows of the desk, which others change between two calls
 
--- After the steps of some journal the desk returns this to a call that makes this step.
-abbrev pub DeskReturns : {A : Type 0} → Result A DeskError
+-- a desk with these limits, whose picture is what its journal's steps lead to
+abbrev pub IsDeskOf : Limits → JournaledPicture → Type 0
+IsDeskOf limits desk = (desk.picture.limits ≡ limits) × IsReplay desk
+
+-- After the steps of some journal a desk with these limits returns this to a call that makes this
+-- step.
+abbrev pub DeskReturns : {A : Type 0} → Limits → Result A DeskError
     → (Picture → Result A DeskRefusal × Picture) → Step → Type 0
-DeskReturns result call step = (old : JournaledPicture) × (new : JournaledPicture)
-    × IsReplay old × JournalAnswers result (call old.picture) step old new
+DeskReturns limits result call step = (old : JournaledPicture) × (new : JournaledPicture)
+    × IsDeskOf limits old × JournalAnswers result (call old.picture) step old new
 
 -- ---- subscribing
 
@@ -57,16 +64,16 @@ MakesSubscription (Err refused) base start old new = (refused.tables ≡ base)
 
 -- The number and the link of a new subscription, or the refusal, are those that the desk returns.
 -- Memory may run out before the desk is asked.
-abbrev pub RefusesAfterDesk : SubscribeError → ℕ → Type 0
-RefusesAfterDesk subscribing.OtherSchema start = Unit {0}
-RefusesAfterDesk (subscribing.Desk Memory) start = Unit {0}
-RefusesAfterDesk (subscribing.Desk (Refused why)) start =
-    DeskReturns {A = ℕ × ℕ} (Err (Refused why)) (λ p. subscribe p start) (Subscribe start)
+abbrev pub RefusesAfterDesk : Limits → SubscribeError → ℕ → Type 0
+RefusesAfterDesk limits subscribing.OtherSchema start = Unit {0}
+RefusesAfterDesk limits (subscribing.Desk Memory) start = Unit {0}
+RefusesAfterDesk limits (subscribing.Desk (Refused why)) start =
+    DeskReturns {A = ℕ × ℕ} limits (Err (Refused why)) (λ p. subscribe p start) (Subscribe start)
 
-abbrev pub SubscribesAfterDesk : Result SubscriptionState RefusedSubscription → ℕ → Type 0
-SubscribesAfterDesk (Ok s) start =
-    DeskReturns (Ok (s.sub, s.link)) (λ p. subscribe p start) (Subscribe start)
-SubscribesAfterDesk (Err refused) start = RefusesAfterDesk refused.why start
+abbrev pub SubscribesAfterDesk : Limits → Result SubscriptionState RefusedSubscription → ℕ → Type 0
+SubscribesAfterDesk limits (Ok s) start =
+    DeskReturns limits (Ok (s.sub, s.link)) (λ p. subscribe p start) (Subscribe start)
+SubscribesAfterDesk limits (Err refused) start = RefusesAfterDesk limits refused.why start
 
 -- Tables of another schema are refused first of all, and only they. The tables come back.
 abbrev pub IsSchemaWhy : List Shape → List Shape → SubscribeError → Type 0
@@ -99,3 +106,12 @@ abbrev pub ShowsDrained : Cells → ℕ → TakeError → Type 0
 ShowsDrained cells cursor (taking.Drained told) = IsLastToken cells told × (told.last ≡ cursor)
 ShowsDrained cells cursor (taking.Desk error) =
     (last : ℕ) → error ≡ Refused (desk.Drained last) → ⊥
+
+-- ---- auditing
+
+-- an auditor that has heard these subscriptions too
+abbrev pub heard_too : AuditorState → List SubscriptionState → AuditorState
+heard_too auditor all = record {
+  sum = auditor.sum + all_steps all;
+  heard = auditor.heard + length all;
+}

@@ -5,10 +5,11 @@ use Rattle.rb_desk.specs.declared.refusal.DeskRefusal.{DeskRefusal}
 use Rattle.rb_desk.specs.declared.refusal.DeskRefusal.TheVariants as desk
 use Rattle.rb_desk.specs.declared.step.Step.TheVariants.{Place}
 use Rattle.rb_desk.specs.Calls.{prepare, place, close}
-use Rattle.rb_desk.specs.Journaled.{IsReplay, JournaledPicture, answer_after, closing_steps}
-use Rattle.rb_desk.specs.Journaled.{journaled}
+use Rattle.rb_desk.specs.Journaled.{JournaledPicture, answer_after, closing_steps, journaled}
+use Rattle.rb_desk.specs.Limits.{Limits}
 use Rattle.rb_sequence.specs.Cells.{Cells, CellToken, IsLastToken, IsTokenOf, LastToken}
 use Rattle.rb_sequence.specs.Entry.{Entry}
+use Rattle.rb_broker.specs.Holding.{IsDeskOf}
 use Rattle.rb_broker.specs.declared.refusal.PlaceRefusal.{PlaceRefusal}
 use Rattle.rb_broker.specs.declared.refusal.PlaceRefusal.TheVariants.{JournalFull}
 use Rattle.rb_broker.specs.declared.refusal.PlaceRefusal.TheVariants.{Closed, SequenceFull}
@@ -59,12 +60,18 @@ PlacesEntry (Ok told) cells entry old new = ShowsEntry cells told entry
 PlacesEntry (Err refused) cells entry old new = (refused.item ≡ entry.item)
     × RefusesPlace cells old refused.why × (new ≡ old)
 
--- After the steps of some journal the desk refuses to place so. That a cell is set already, and out
--- of memory, tell nothing of the desk.
-abbrev pub DeskRefuses : Cells → PlaceRefusal → Type 0
-DeskRefuses cells Occupied = Unit {0}
-DeskRefuses cells Memory = Unit {0}
-DeskRefuses cells why = (desk : JournaledPicture) × IsReplay desk × RefusesPlace cells desk why
+-- After the steps of some journal a desk with these limits refuses to place so. That a cell is set
+-- already, and out of memory, tell nothing of the desk.
+abbrev pub DeskRefuses : Limits → Cells → PlaceRefusal → Type 0
+DeskRefuses limits cells Occupied = Unit {0}
+DeskRefuses limits cells Memory = Unit {0}
+DeskRefuses limits cells why =
+    (desk : JournaledPicture) × IsDeskOf limits desk × RefusesPlace cells desk why
+
+-- After the steps of some journal a desk with these limits places this number.
+abbrev pub DeskPlaces : Limits → ℕ → Type 0
+DeskPlaces limits number = (desk : JournaledPicture) × IsDeskOf limits desk
+    × (number_to_place desk ≡ Ok number)
 
 -- What the hold returns and leaves that closes. The desk is closed, and the token shows its closing
 -- number in the closing cell; or, if that cell is set and the desk isn't closed, the desk is as
@@ -76,3 +83,9 @@ ClosesBoth (Some told) cells old new = IsLastToken cells told
     × (new.picture ≡ (close old.picture).1)
     × (new.steps ≡ old.steps ++ closing_steps old.picture.closing)
 ClosesBoth None cells old new = (old.picture.closing ≡ None) × (new ≡ old)
+
+-- After the steps of some journal a desk with these limits is closed, and this is its last number:
+-- its front, or the closing number that it has.
+abbrev pub DeskCloses : Limits → LastToken → Type 0
+DeskCloses limits told = (desk : JournaledPicture) × IsDeskOf limits desk
+    × (told.last ≡ (close desk.picture).0)

@@ -3,6 +3,7 @@ use Rattle.std.specs.Prelude.{◌≡◌, ℕ, Result, Ok, Err}
 use Rattle.cs_apply.specs.State.{TableState}
 use Rattle.rb_desk.specs.Calls.{reconnect}
 use Rattle.rb_desk.specs.Journaled.{JournalAnswers, JournaledPicture}
+use Rattle.rb_desk.specs.Limits.{Limits}
 use Rattle.rb_desk.specs.declared.refusal.DeskError.TheVariants.{Memory, Refused}
 use Rattle.rb_desk.specs.declared.step.Step.TheVariants.{Reconnect}
 use Rattle.rb_subscriber.specs.Lost.{FitsLost, gone_on}
@@ -27,13 +28,14 @@ ResumesNothing lost tables cursor refused = (refused.lost ≡ lost) × (refused.
 
 -- The desk is asked for a reconnection of this subscription at this cursor. The new link, or the
 -- refusal, is the one that it returns after the steps of some journal.
-abbrev pub ReconnectReturns : ℕ → ℕ → Result ℕ ResumeError → Type 0
-ReconnectReturns sub cursor (Ok link) =
-    DeskReturns (Ok link) (λ p. reconnect p sub cursor) (Reconnect sub cursor)
-ReconnectReturns sub cursor (Err resuming.OtherState) = Unit {0}
-ReconnectReturns sub cursor (Err (resuming.Desk Memory)) = Unit {0}
-ReconnectReturns sub cursor (Err (resuming.Desk (Refused why))) =
-    DeskReturns {A = ℕ} (Err (Refused why)) (λ p. reconnect p sub cursor) (Reconnect sub cursor)
+abbrev pub ReconnectReturns : Limits → ℕ → ℕ → Result ℕ ResumeError → Type 0
+ReconnectReturns limits sub cursor (Ok link) =
+    DeskReturns limits (Ok link) (λ p. reconnect p sub cursor) (Reconnect sub cursor)
+ReconnectReturns limits sub cursor (Err resuming.OtherState) = Unit {0}
+ReconnectReturns limits sub cursor (Err (resuming.Desk Memory)) = Unit {0}
+ReconnectReturns limits sub cursor (Err (resuming.Desk (Refused why))) =
+    DeskReturns {A = ℕ} limits (Err (Refused why)) (λ p. reconnect p sub cursor)
+    (Reconnect sub cursor)
 
 -- ---- one hold of the lock
 

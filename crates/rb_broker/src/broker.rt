@@ -4,7 +4,8 @@ ghost use Rattle.std.specs.Prelude.{◌≡◌, ◌++◌, ◌∷◌, [], ℕ, IfE
 ghost use Rattle.std.specs.{Arc.{arc_value}, Prelude.{MatchOption}};
 ghost use Rattle.rb_intake.specs.Passes.{IsAllPulled};
 ghost use Rattle.rb_sequence.specs.{Cells.{IsLastToken}, Items.{CountsUp}};
-ghost use Rattle.rb_broker.specs.Placing.{DeskRefuses, ShowsEntry, ShowsWhy};
+ghost use Rattle.rb_broker.specs.Placing.{DeskCloses, DeskPlaces, DeskRefuses, ShowsEntry};
+ghost use Rattle.rb_broker.specs.Placing.{ShowsWhy};
 
 use crate::hall::Hall;
 use crate::locked::{Locked, refused};
@@ -29,6 +30,7 @@ pub struct Broker<L: Hall> {
     preparer: Preparer,
     pub(crate) intake: Intake,
     pub(crate) locked: Mutex<Locked<L>>,
+    ghost limits: { config ≡ L.limits },
     ghost cells: { sequence ≡ L.cells },
     ghost prepares: { preparer ≡ L.cells },
     ghost queue: { intake.queue ≡ L.queue },
@@ -50,14 +52,13 @@ pub struct Started<L: Hall> {
 impl<L: Hall> Broker<L> {
     /// Starts a broker that was opened, in a hall of its own.
     pub fn start(opened: Opened) -> Started<L>
-        requires cells { opened.cells ≡ L.cells }
+        requires sequence { (opened.limits ≡ L.limits) × (opened.cells ≡ L.cells) }
         requires queue { opened.queue ≡ L.queue }
         requires ledger { (opened.ledger ≡ L.name) × (L.parts ≡ 1024) × (L.all ≡ 1024) }
         ensures sequencer { result.sequencer
             ≡ record { queue = L.queue; pulled = []; ended = [] } }
         ensures publishers { result.publishers ≡ 0 }
         ensures auditor { result.auditor ≡ record { sum = 0; heard = 0 } }
-        ensures limits { result.broker.config ≡ opened.limits }
         ensures schema { arc_value result.broker.schema ≡ opened.schema }
     {
         let (register, auditor) = Register::open(opened.blank);
@@ -88,7 +89,7 @@ impl<L: Hall> Broker<L> {
 
     /// Its limits.
     pub fn config(&self) -> Config
-        ensures { result ≡ self.now.config }
+        ensures { result ≡ L.limits }
     {
         self.config
     }
@@ -136,9 +137,10 @@ impl<L: Hall> Broker<L> {
         ensures pass { _pass.new ≡ _pass.old }
         ensures ok { IfOk result (λ told. ShowsEntry L.cells told
             (record { number = number; item = item })) }
+        ensures placed { IfOk result (λ told. DeskPlaces L.limits told.number) }
         ensures err { IfErr result (λ refused. (refused.item ≡ item)
             × ShowsWhy L.cells refused.why) }
-        ensures desk { IfErr result (λ refused. DeskRefuses L.cells refused.why) }
+        ensures desk { IfErr result (λ refused. DeskRefuses L.limits L.cells refused.why) }
     {
         let Ok(form) = item.form(alloc) else {
             let why = PlaceRefusal::Memory;
@@ -166,7 +168,8 @@ impl<L: Hall> Broker<L> {
     /// Returns `None` if the closing cell is set though the sequence isn't closed. Nothing else
     /// sets it, so this does not happen.
     pub fn close<R: Wait>(&self, rt: &R) -> Option<ToldLast>
-        ensures { IfSome result (λ told. IsLastToken L.cells told) }
+        ensures closed { IfSome result (λ told. IsLastToken L.cells told) }
+        ensures desk { IfSome result (DeskCloses L.limits) }
     {
         let mut locked = self.locked.lock(rt);
         locked.close()

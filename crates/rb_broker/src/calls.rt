@@ -7,11 +7,10 @@ ghost use Rattle.rb_desk.specs.Calls.{ack, expire, nack, nack_opened, reconnect,
 ghost use Rattle.rb_desk.specs.Calls.{unsubscribe};
 ghost use Rattle.rb_desk.specs.declared.step.Step.TheVariants as step;
 ghost use Rattle.rb_subscriber.specs.Lost.{FitsLost, gone_on};
-ghost use Rattle.rb_subscriber.specs.Register.{all_steps};
 ghost use Rattle.rb_subscriber.specs.Subscription.{cursor_of, new_subscription};
 ghost use Rattle.rb_broker.specs.Holding.{DeskReturns, RefusesTables, ShowsDrained};
 ghost use Rattle.rb_broker.specs.Holding.{SubscribesAfterDesk, counted_step, desk_answer};
-ghost use Rattle.rb_broker.specs.Holding.{ended_step, relinked_step};
+ghost use Rattle.rb_broker.specs.Holding.{ended_step, heard_too, relinked_step};
 ghost use Rattle.rb_broker.specs.Resuming.{ReconnectReturns, ResumesNothing};
 
 use crate::broker::Broker;
@@ -41,7 +40,7 @@ impl<L: Hall> Broker<L> {
         ensures new { IfOk result (λ s. s ≡ new_subscription s.sub start s.link tables) }
         ensures schema { OnOk result (tables.schema ≡ arc_value self.now.schema) }
         ensures refused { IfErr result (RefusesTables (arc_value self.now.schema) tables) }
-        ensures desk { SubscribesAfterDesk result start }
+        ensures desk { SubscribesAfterDesk L.limits result start }
     {
         if !self.has_schema(&tables) {
             let why = SubscribeError::OtherSchema;
@@ -79,7 +78,7 @@ impl<L: Hall> Broker<L> {
         ensures of { IfOk result (λ delivery. (delivery.sub ≡ subscription.old.sub)
             × (delivery.link ≡ subscription.old.link)) }
         ensures drained { IfErr result (ShowsDrained L.cells (cursor_of subscription.old)) }
-        ensures desk { DeskReturns (desk_answer result)
+        ensures desk { DeskReturns L.limits (desk_answer result)
             (λ p. take p subscription.old.sub subscription.old.link
             (cursor_of subscription.old) now)
             (step.Take subscription.old.sub subscription.old.link (cursor_of subscription.old)
@@ -94,7 +93,7 @@ impl<L: Hall> Broker<L> {
     ///
     /// Refuses `Empty` if nothing is ready.
     pub fn take_any<R: Wait>(&self, rt: &R, alloc: Global, now: u64) -> Result<Delivery, DeskError>
-        ensures { DeskReturns result (λ p. take_any p now) (step.TakeAny now) }
+        ensures { DeskReturns L.limits result (λ p. take_any p now) (step.TakeAny now) }
     {
         let mut locked = self.locked.lock(rt);
         locked.take_any(alloc, now)
@@ -113,8 +112,8 @@ impl<L: Hall> Broker<L> {
     ) -> Result<u64, DeskError>
         ensures ok { OnOk result (subscription.new ≡ counted_step subscription.old) }
         ensures err { OnErr result (subscription.new ≡ subscription.old) }
-        ensures desk { DeskReturns result (λ p. ack p subscription.old.sub delivery.now.link
-            delivery.now.number (cursor_of subscription.old))
+        ensures desk { DeskReturns L.limits result (λ p. ack p subscription.old.sub
+            delivery.now.link delivery.now.number (cursor_of subscription.old))
             (step.Ack subscription.old.sub delivery.now.link delivery.now.number
             (cursor_of subscription.old)) }
     {
@@ -134,8 +133,8 @@ impl<L: Hall> Broker<L> {
     ) -> Result<(), DeskError>
         ensures ok { OnOk result (subscription.new ≡ counted_step subscription.old) }
         ensures err { OnErr result (subscription.new ≡ subscription.old) }
-        ensures desk { DeskReturns result (λ p. nack p subscription.old.sub delivery.now.link
-            delivery.now.number)
+        ensures desk { DeskReturns L.limits result (λ p. nack p subscription.old.sub
+            delivery.now.link delivery.now.number)
             (step.Nack subscription.old.sub delivery.now.link delivery.now.number) }
     {
         let mut locked = self.locked.lock(rt);
@@ -157,7 +156,7 @@ impl<L: Hall> Broker<L> {
     ) -> Result<u64, DeskError>
         ensures ok { OnOk result (subscription.new ≡ counted_step subscription.old) }
         ensures err { OnErr result (subscription.new ≡ subscription.old) }
-        ensures desk { DeskReturns result (λ p. nack_opened p subscription.old.sub
+        ensures desk { DeskReturns L.limits result (λ p. nack_opened p subscription.old.sub
             delivery.now.link delivery.now.number)
             (step.NackOpened subscription.old.sub delivery.now.link delivery.now.number) }
     {
@@ -168,7 +167,7 @@ impl<L: Hall> Broker<L> {
     /// Makes all deliveries ready again that were taken the timeout ago or earlier. Returns how
     /// many these are. `now` is a tick of the caller's clock.
     pub fn expire<R: Wait>(&self, rt: &R, alloc: Global, now: u64) -> Result<u64, DeskError>
-        ensures { DeskReturns result (λ p. (Ok (expire p now).0, (expire p now).1))
+        ensures { DeskReturns L.limits result (λ p. (Ok (expire p now).0, (expire p now).1))
             (step.Expire now) }
     {
         let mut locked = self.locked.lock(rt);
@@ -187,7 +186,7 @@ impl<L: Hall> Broker<L> {
     ) -> Result<u64, DeskError>
         ensures ok { IfOk result (λ link. subscription.new ≡ relinked_step link subscription.old) }
         ensures err { OnErr result (subscription.new ≡ subscription.old) }
-        ensures desk { DeskReturns result
+        ensures desk { DeskReturns L.limits result
             (λ p. reconnect p subscription.old.sub (cursor_of subscription.old))
             (step.Reconnect subscription.old.sub (cursor_of subscription.old)) }
     {
@@ -213,9 +212,9 @@ impl<L: Hall> Broker<L> {
         ensures fits { OnOk result (FitsLost lost tables cursor) }
         ensures ok { IfOk result (λ s. s ≡ counted_step (gone_on lost tables cursor s.link)) }
         ensures refused { IfErr result (ResumesNothing lost tables cursor) }
-        ensures link { IfOk result (λ s. ReconnectReturns lost.sub cursor (Ok s.link)) }
+        ensures link { IfOk result (λ s. ReconnectReturns L.limits lost.sub cursor (Ok s.link)) }
         ensures desk { IfErr result (λ refused.
-            ReconnectReturns lost.sub cursor (Err refused.why)) }
+            ReconnectReturns L.limits lost.sub cursor (Err refused.why)) }
     {
         let Ok(fits) = lost.fits(alloc, &tables, cursor) else {
             let why = ResumeError::Desk(DeskError::Memory);
@@ -240,7 +239,7 @@ impl<L: Hall> Broker<L> {
     ) -> Result<(), DeskError>
         ensures ok { OnOk result (subscription.new ≡ ended_step subscription.old) }
         ensures err { OnErr result (subscription.new ≡ subscription.old) }
-        ensures desk { DeskReturns result
+        ensures desk { DeskReturns L.limits result
             (λ p. unsubscribe p subscription.old.sub subscription.old.link)
             (step.Unsubscribe subscription.old.sub subscription.old.link) }
     {
@@ -260,8 +259,9 @@ impl<L: Hall> Broker<L> {
         auditor: &mut Auditor<L>,
         subscriptions: Vec<Subscription<L>>,
     ) -> Result<u64, Missing<L>>
-        ensures sum { IfOk result (λ sum. (auditor.new.sum ≡ sum)
-            × (sum ≡ auditor.old.sum + all_steps subscriptions.items)) }
+        ensures sum { IfOk result (λ sum. sum ≡ auditor.new.sum) }
+        ensures heard { OnOk result
+            (auditor.new ≡ heard_too auditor.old subscriptions.items) }
         ensures missing { IfErr result (λ missing.
             missing.subscriptions.items ≡ subscriptions.items) }
         ensures err { OnErr result (auditor.new ≡ auditor.old) }

@@ -4,14 +4,13 @@
 ghost use Rattle.std.specs.Prelude.{◌≡◌, ◌+◌, ◌<◌, Err, IfErr, IfOk, Ok, OnErr, OnOk};
 ghost use Rattle.rb_desk.specs.Calls.{ack, expire, nack, nack_opened, reconnect, take, take_any};
 ghost use Rattle.rb_desk.specs.Calls.{unsubscribe};
-ghost use Rattle.rb_desk.specs.Journaled.{IsReplay, JournalAnswers, counted_steps, is_own};
+ghost use Rattle.rb_desk.specs.Journaled.{JournalAnswers, counted_steps, is_own};
 ghost use Rattle.rb_desk.specs.declared.step.Step.TheVariants as step;
 ghost use Rattle.rb_subscriber.specs.Lost.{FitsLost};
-ghost use Rattle.rb_subscriber.specs.Register.{all_steps};
 ghost use Rattle.rb_subscriber.specs.Subscription.{cursor_of};
-ghost use Rattle.rb_broker.specs.Holding.{IsAtEnd, ShowsDrained, MakesSubscription, counted_step};
-ghost use Rattle.rb_broker.specs.Holding.{desk_answer};
-ghost use Rattle.rb_broker.specs.Holding.{desk_error, ended_step, relinked_step};
+ghost use Rattle.rb_broker.specs.Holding.{IsAtEnd, IsDeskOf, MakesSubscription, ShowsDrained};
+ghost use Rattle.rb_broker.specs.Holding.{counted_step, desk_answer};
+ghost use Rattle.rb_broker.specs.Holding.{desk_error, ended_step, heard_too, relinked_step};
 ghost use Rattle.rb_broker.specs.Resuming.{ResumesAsDesk};
 
 use crate::hall::Hall;
@@ -37,7 +36,7 @@ impl<L: Hall> Locked<L> {
     ) -> Result<Subscription<L>, RefusedSubscription>
         requires { base ≡ tables }
         ensures made { MakesSubscription result tables start self.old.desk self.new.desk }
-        ensures replay { IsReplay self.old.desk }
+        ensures held { IsDeskOf L.limits self.old.desk }
     {
         steps_are_counted();
         only_subscribe_and_close();
@@ -66,7 +65,7 @@ impl<L: Hall> Locked<L> {
             (cursor_of subscription.old) now)
             (step.Take subscription.old.sub subscription.old.link (cursor_of subscription.old) now)
             self.old.desk self.new.desk }
-        ensures replay { IsReplay self.old.desk }
+        ensures held { IsDeskOf L.limits self.old.desk }
         ensures ok { OnOk result (subscription.new ≡ counted_step subscription.old) }
         ensures err { OnErr result (subscription.new ≡ subscription.old) }
         ensures of { IfOk result (λ delivery. (delivery.sub ≡ subscription.old.sub)
@@ -110,7 +109,7 @@ impl<L: Hall> Locked<L> {
     pub(crate) fn take_any(&mut self, alloc: Global, now: u64) -> Result<Delivery, DeskError>
         ensures desk { JournalAnswers result (take_any self.old.desk.picture now)
             (step.TakeAny now) self.old.desk self.new.desk }
-        ensures replay { IsReplay self.old.desk }
+        ensures held { IsDeskOf L.limits self.old.desk }
     {
         steps_are_counted();
         only_subscribe_and_close();
@@ -130,7 +129,7 @@ impl<L: Hall> Locked<L> {
             (step.Ack subscription.old.sub delivery.now.link delivery.now.number
             (cursor_of subscription.old))
             self.old.desk self.new.desk }
-        ensures replay { IsReplay self.old.desk }
+        ensures held { IsDeskOf L.limits self.old.desk }
         ensures ok { OnOk result (subscription.new ≡ counted_step subscription.old) }
         ensures err { OnErr result (subscription.new ≡ subscription.old) }
     {
@@ -156,7 +155,7 @@ impl<L: Hall> Locked<L> {
             delivery.now.link delivery.now.number)
             (step.Nack subscription.old.sub delivery.now.link delivery.now.number)
             self.old.desk self.new.desk }
-        ensures replay { IsReplay self.old.desk }
+        ensures held { IsDeskOf L.limits self.old.desk }
         ensures ok { OnOk result (subscription.new ≡ counted_step subscription.old) }
         ensures err { OnErr result (subscription.new ≡ subscription.old) }
     {
@@ -181,7 +180,7 @@ impl<L: Hall> Locked<L> {
             subscription.old.sub delivery.now.link delivery.now.number)
             (step.NackOpened subscription.old.sub delivery.now.link delivery.now.number)
             self.old.desk self.new.desk }
-        ensures replay { IsReplay self.old.desk }
+        ensures held { IsDeskOf L.limits self.old.desk }
         ensures ok { OnOk result (subscription.new ≡ counted_step subscription.old) }
         ensures err { OnErr result (subscription.new ≡ subscription.old) }
     {
@@ -201,7 +200,7 @@ impl<L: Hall> Locked<L> {
         ensures desk { JournalAnswers result
             (Ok (expire self.old.desk.picture now).0, (expire self.old.desk.picture now).1)
             (step.Expire now) self.old.desk self.new.desk }
-        ensures replay { IsReplay self.old.desk }
+        ensures held { IsDeskOf L.limits self.old.desk }
     {
         steps_are_counted();
         only_subscribe_and_close();
@@ -219,7 +218,7 @@ impl<L: Hall> Locked<L> {
             subscription.old.sub (cursor_of subscription.old))
             (step.Reconnect subscription.old.sub (cursor_of subscription.old))
             self.old.desk self.new.desk }
-        ensures replay { IsReplay self.old.desk }
+        ensures held { IsDeskOf L.limits self.old.desk }
         ensures ok { IfOk result (λ link. subscription.new ≡ relinked_step link subscription.old) }
         ensures err { OnErr result (subscription.new ≡ subscription.old) }
     {
@@ -244,7 +243,7 @@ impl<L: Hall> Locked<L> {
     ) -> Result<Subscription<L>, RefusedResume<L>>
         requires { FitsLost lost tables cursor }
         ensures made { ResumesAsDesk result lost tables cursor self.old.desk self.new.desk }
-        ensures replay { IsReplay self.old.desk }
+        ensures held { IsDeskOf L.limits self.old.desk }
     {
         steps_are_counted();
         only_subscribe_and_close();
@@ -273,7 +272,7 @@ impl<L: Hall> Locked<L> {
             subscription.old.sub subscription.old.link)
             (step.Unsubscribe subscription.old.sub subscription.old.link)
             self.old.desk self.new.desk }
-        ensures replay { IsReplay self.old.desk }
+        ensures held { IsDeskOf L.limits self.old.desk }
         ensures ok { OnOk result (subscription.new ≡ ended_step subscription.old) }
         ensures err { OnErr result (subscription.new ≡ subscription.old) }
     {
@@ -294,11 +293,12 @@ impl<L: Hall> Locked<L> {
         subscriptions: Vec<Subscription<L>>,
     ) -> Result<u64, Missing<L>>
         ensures journal { IfOk result (λ sum. sum ≡ counted_steps is_own self.old.desk.steps) }
-        ensures sum { IfOk result (λ sum. (auditor.new.sum ≡ sum)
-            × (sum ≡ auditor.old.sum + all_steps subscriptions.items)) }
+        ensures sum { IfOk result (λ sum. sum ≡ auditor.new.sum) }
+        ensures heard { OnOk result
+            (auditor.new ≡ heard_too auditor.old subscriptions.items) }
+        ensures err { OnErr result (auditor.new ≡ auditor.old) }
         ensures missing { IfErr result (λ missing.
             missing.subscriptions.items ≡ subscriptions.items) }
-        ensures err { OnErr result (auditor.new ≡ auditor.old) }
         ensures desk { self.new.desk ≡ self.old.desk }
     {
         steps_are_counted();

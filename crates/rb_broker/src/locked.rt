@@ -3,9 +3,10 @@
 
 ghost use Rattle.std.specs.Prelude.{◌≡◌, Err, IsSome, length};
 ghost use Rattle.rb_desk.specs.declared.refusal.DeskRefusal.TheVariants as refusal;
-ghost use Rattle.rb_desk.specs.Journaled.{IsReplay, counted_steps, is_own};
+ghost use Rattle.rb_desk.specs.Journaled.{counted_steps, is_own};
 ghost use Rattle.std.proofs.Props.{props};
 ghost use Rattle.rb_sequence.specs.Cells.{IsReadyFor};
+ghost use Rattle.rb_broker.specs.Holding.{IsDeskOf};
 ghost use Rattle.rb_broker.specs.Placing.{ClosesBoth, IsWhy, PlacesEntry, RefusesPlace};
 ghost use Rattle.rb_broker.specs.Placing.{ShowsClosing, number_to_place};
 
@@ -17,8 +18,9 @@ use rb_sequence::{Entry, Filler, Ready, Told, ToldLast};
 use rb_subscriber::Register;
 
 /// The desk of a broker, the filler of its sequence, and the register of its subscriptions. The
-/// desk's capacity is the sequence's. The register has counted the steps that the desk's journal
-/// has of the subscriptions' own, and made as many subscriptions as the desk.
+/// desk has the broker's limits, and their capacity is the sequence's. The register has counted the
+/// steps that the desk's journal has of the subscriptions' own, and made as many subscriptions as
+/// the desk.
 #[derive(Drop)]
 pub(crate) struct Locked<L: Hall> {
     pub(crate) desk: Desk,
@@ -26,7 +28,8 @@ pub(crate) struct Locked<L: Hall> {
     pub(crate) register: Register<L>,
     // shows the desk's closing number, once there is one
     pub(crate) closing: Option<ToldLast>,
-    ghost fits: { desk.picture.limits.capacity ≡ L.cells.capacity },
+    ghost limits: { desk.picture.limits ≡ L.limits },
+    ghost fits: { L.limits.capacity ≡ L.cells.capacity },
     ghost fills: { filler ≡ L.cells },
     ghost closes: { ShowsClosing L.cells desk.picture.closing closing } by { Prim.hlevel props },
     ghost all: { L.all ≡ 1024 },
@@ -39,7 +42,7 @@ impl<L: Hall> Locked<L> {
     pub(crate) fn place(&mut self, ready: Ready) -> Result<Told, RefusedItem>
         requires { IsReadyFor L.cells ready }
         ensures placed { PlacesEntry result L.cells ready.entry self.old.desk self.new.desk }
-        ensures replay { IsReplay self.old.desk }
+        ensures held { IsDeskOf L.limits self.old.desk }
     {
         steps_are_counted();
         only_subscribe_and_close();
@@ -63,7 +66,7 @@ impl<L: Hall> Locked<L> {
     /// Why a number without a cell isn't placed.
     pub(crate) fn refuses(&self) -> PlaceRefusal
         ensures why { RefusesPlace L.cells self.now.desk result }
-        ensures replay { IsReplay self.now.desk }
+        ensures held { IsDeskOf L.limits self.now.desk }
     {
         let _steps = self.desk.steps();
         match self.desk.prepare() {
@@ -98,10 +101,12 @@ impl<L: Hall> Locked<L> {
     /// Sets the closing cell and closes the desk, unless it is closed. Returns `None` if the cell
     /// is set already. Does not allocate.
     pub(crate) fn close(&mut self) -> Option<ToldLast>
-        ensures { ClosesBoth result L.cells self.old.desk self.new.desk }
+        ensures closed { ClosesBoth result L.cells self.old.desk self.new.desk }
+        ensures held { IsDeskOf L.limits self.old.desk }
     {
         steps_are_counted();
         only_subscribe_and_close();
+        let _steps = self.desk.steps();
         if let Some(told) = &self.closing {
             return Some(told.again());
         }

@@ -1,3 +1,4 @@
 pub mod MeetLaws
 pub mod FinishLaws
 pub mod HeadlineLaws
+pub mod DrainedLaws

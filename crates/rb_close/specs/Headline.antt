@@ -51,3 +51,10 @@ pub record KeepsRunningHeadline (cells : Cells) (publishers : List PublisherView
       (entries_told subscription.told)
   pub tables : HasSingleTables subscription.base (entries_told subscription.told)
       subscription.tables
+
+-- A subscription has accepted all that was placed after its start: the entries with the numbers up
+-- to its start, then what it accepted, are the whole sequence.
+abbrev pub HasAcceptedAll : SequencerState → SubscriptionState → Type 0
+HasAcceptedAll sequencer subscription = (before : List Entry)
+    × (length before ≡ subscription.start)
+    × (before ++ entries_told subscription.told ≡ entries_told sequencer.placed)

@@ -1,6 +1,7 @@
 //! `finish`: the end of a broker, when its threads have ended.
 
-ghost use Rattle.std.specs.Prelude.{◌≡◌, ◌+◌, ◌<◌, ◌≤◌, ℕ, [], length, IfErr, IfNone, IfOk, IfSome};
+ghost use Rattle.std.specs.Prelude.{◌≡◌, ◌+◌, ◌<◌, ◌≤◌, ℕ, [], length, IfErr, IfNone, IfOk};
+ghost use Rattle.std.specs.Prelude.{IfSome, OnOk};
 ghost use Rattle.std.specs.{Bool.{Decides}, Prelude.{vec_capacity}};
 ghost use Rattle.rb_close.specs.Finishing.{AreAllPresent, Finishes, IsPresent, JoinsPasses};
 ghost use Rattle.rb_close.specs.Finishing.{RefusesFinish, all_sent};
@@ -44,6 +45,7 @@ pub fn finish<L: Hall, R: Wait>(
     ensures ok { IfOk result (λ f.
         Finishes L.cells publishers.items sequencer f.placed f.left.items f.closing) }
     ensures sequence { IfOk result (λ f. f.sequence ≡ L.cells) }
+    ensures all { OnOk result (AreAllPresent maker publishers.items) }
     ensures why { IfErr result (λ u. RefusesFinish maker publishers.items u.why) }
     ensures back { IfErr result (λ u. (u.publishers.items ≡ publishers.items)
         × (u.sequencer ≡ sequencer) × (u.maker ≡ maker)) }

@@ -5,6 +5,7 @@ use Rattle.cs_model.specs.Bytes.{AreBytes}
 use Rattle.rb_core.specs.declared.event.Event.{Event}
 use Rattle.rb_core.specs.declared.event.Event.TheVariants as event
 use Rattle.rb_core.specs.declared.reply.Reply.{Reply}
+use Rattle.rb_core.specs.Memory.{MayRunOut}
 use Rattle.rb_core.specs.Outcome.{outcome}
 use Rattle.std.specs.List.{AllByRecursion}
 use Rattle.cs_model.specs.declared.shape.Shape.{Shape}
@@ -28,6 +29,15 @@ Run old [] (answer ∷ answers) new = ⊥
 Run old (event ∷ events) [] new = ⊥
 Run old (event ∷ events) (answer ∷ answers) new = (mid : State) × Stepped old event answer mid
     × Run mid events answers new
+
+-- From `old`, memory runs out for these events only where it may.
+abbrev pub RunsOutWhereItMay : State → List Event → List Answer → Type 0
+RunsOutWhereItMay old [] answers = Unit {0}
+RunsOutWhereItMay old (event ∷ events) [] = Unit {0}
+RunsOutWhereItMay old (event ∷ events) (Ok given ∷ answers) =
+    RunsOutWhereItMay (outcome old event).1 events answers
+RunsOutWhereItMay old (event ∷ events) (Err e ∷ answers) =
+    MayRunOut old event (outcome old event).0 × RunsOutWhereItMay old events answers
 
 -- an event feeds bytes, if it feeds anything
 abbrev pub FeedsBytes : Event → Type 0

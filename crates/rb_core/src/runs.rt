@@ -7,7 +7,7 @@ ghost use Rattle.rb_core.specs.Headline.{HasTakenFed};
 ghost use Rattle.rb_core.specs.Moves.{HasRun, StaysClosed, items_of};
 ghost use Rattle.rb_sequence.specs.Items.{own_of};
 ghost use Rattle.rb_core.specs.Moves.{AreAllOf, IsFront, IsSending};
-ghost use Rattle.rb_core.specs.Run.{Run, FeedsBytes};
+ghost use Rattle.rb_core.specs.Run.{FeedsBytes, Run, RunsOutWhereItMay};
 ghost use Rattle.rb_core.specs.State.{empty_tables, empty_world};
 ghost use Rattle.rb_core.specs.Told.{Paired, world_told};
 ghost use Rattle.rb_core.specs.World.{Sender, Subscriber, endpoint_of};
@@ -38,6 +38,9 @@ pub fn run(
 ) -> Result<(World, Vec<Result<Reply, AllocError>>), AllocError>
     // The replies and the world are those of a run of the events.
     ensures run { IfOk result (λ r. Run (empty_world config schema) events.now r.1.items r.0) }
+    // Memory ran out only for events that may run out of it.
+    ensures memory { IfOk result (λ r.
+        RunsOutWhereItMay (empty_world config schema) events.now r.1.items) }
     // A subscription has accepted one contiguous run of the sequence after its start, and its
     // endpoint is in the same state.
     ensures gapless { IfOk result (λ r. (s : ℕ) (subscriber : Subscriber)
@@ -89,8 +92,8 @@ pub fn run(
     served(alloc, config, schema, events)
 }
 
-// Serves the events, with the clauses from which all others follow: it is a run, and the events
-// feed bytes.
+// Serves the events, with the clauses from which all others follow: it is a run, the events feed
+// bytes, and memory runs out only where it may.
 fn served(
     alloc: Global,
     config: Config,
@@ -98,7 +101,8 @@ fn served(
     events: &[Event],
 ) -> Result<(World, Vec<Result<Reply, AllocError>>), AllocError>
     ensures { IfOk result (λ r. Run (empty_world config schema) events.now r.1.items r.0
-        × AllByRecursion FeedsBytes events.now) }
+        × AllByRecursion FeedsBytes events.now
+        × RunsOutWhereItMay (empty_world config schema) events.now r.1.items) }
 {
     let mut world = World::new(alloc, config, schema)?;
     let mut answers = Vec::with_capacity(alloc, events.len())?;

@@ -1,5 +1,5 @@
 -- How a drive ends: what is read and written by then, and what it comes to.
-use Rattle.std.specs.Prelude.{◌≡◌, ℕ, ◌⊎◌, List, [], ◌∷◌, length, map, Option, Result, Ok, Err}
+use Rattle.std.specs.Prelude.{◌≡◌, ◌<◌, ℕ, ◌⊎◌, List, [], ◌∷◌, length, map, Option, Result, Ok, Err}
 use Rattle.std.specs.Io.KnownBytes.{Appends, Consumes, IsAtEnd, Keeps}
 use Rattle.cs_model.specs.declared.shape.Shape.{Shape}
 use Rattle.rb_desk.specs.Limits.{Limits}
@@ -49,9 +49,10 @@ ComesTo limits subscribers tables givens outcome = (cells : Cells) × (lines : L
     × (length outcome.subscribers ≡ subscribers) × IsDriven cells tables lines outcome
 
 -- How a drive ends, under these limits and with so many subscribers. The reader had r0 left and has
--- r; the writer held w0 and holds w. It ends at a line exactly where that is the first bad one. Its
--- status is that of an outcome, and the report of that outcome is written, or a prefix of it where
--- the writer fails. No other error writes anything.
+-- r; the writer held w0 and holds w. It ends at a line exactly where that is the first bad one, and
+-- before it reads anything where a broker never has so many subscribers. Its status is that of an
+-- outcome, and the report of that outcome is written, or a prefix of it where the writer fails. No
+-- other error writes anything.
 abbrev pub DriveEnds : Limits → ℕ → Result ℕ DriveFault → Option (List ℕ) → Option (List ℕ)
     → Option (List ℕ) → Option (List ℕ) → Type 0
 DriveEnds limits n (Ok status) r0 r w0 w =
@@ -68,6 +69,7 @@ DriveEnds limits n (Err (fault.Read why)) r0 r w0 w =
     ((bytes : List ℕ) × Consumes r0 r bytes × HasNoBadLine bytes) × Keeps w0 w
 DriveEnds limits n (Err fault.Memory) r0 r w0 w =
     ((bytes : List ℕ) × Consumes r0 r bytes) × Keeps w0 w
+DriveEnds limits n (Err fault.TooMany) r0 r w0 w = (1024 < n) × Keeps r0 r × Keeps w0 w
 DriveEnds limits n (Err fault.Stopped) r0 r w0 w =
     ((tables : List Shape) × (givens : List Given) × ReadsInput tables givens r0 r) × Keeps w0 w
 DriveEnds limits n (Err fault.Store) r0 r w0 w =

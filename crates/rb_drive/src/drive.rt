@@ -71,7 +71,7 @@ pub fn drive<L: Hall + Send + Sync, S: Closable + Drop + Send, R: Threads + Wait
     opened: Opened,
     plan: Plan<S>,
 ) -> Result<Outcome<L>, DriveFault>
-    requires cells { opened.cells ≡ L.cells }
+    requires sequence { (opened.limits ≡ L.limits) × (opened.cells ≡ L.cells) }
     requires queue { opened.queue ≡ L.queue }
     requires ledger { (opened.ledger ≡ L.name) × (L.parts ≡ 1024) × (L.all ≡ 1024) }
     requires schema { arc_value plan.schema ≡ opened.schema }
@@ -112,7 +112,7 @@ fn drive_owners<L: Hall + Send + Sync, S: Closable + Drop + Send, R: Threads + W
     opened: Opened,
     plan: Plan<S>,
 ) -> Result<Outcome<L>, DriveFault>
-    requires cells { opened.cells ≡ L.cells }
+    requires sequence { (opened.limits ≡ L.limits) × (opened.cells ≡ L.cells) }
     requires queue { opened.queue ≡ L.queue }
     requires ledger { (opened.ledger ≡ L.name) × (L.parts ≡ 1024) × (L.all ≡ 1024) }
     requires schema { arc_value plan.schema ≡ opened.schema }

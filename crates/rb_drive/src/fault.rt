@@ -11,6 +11,9 @@ use thiserror::Error;
 /// `Write` nothing is written; after `Write` a prefix of the report may be.
 #[derive(Debug, Drop, Error)]
 pub enum DriveFault {
+    /// More subscribers were asked for than a broker has. Nothing was read.
+    #[error("too many subscribers")]
+    TooMany,
     /// The reader failed. No thread was started.
     #[error("read fault: {0}")]
     Read(io::Error),

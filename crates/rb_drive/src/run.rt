@@ -1,12 +1,13 @@
 //! A drive from a reader to a writer.
 
-ghost use Rattle.std.specs.Prelude.{◌≡◌, map, Err, IfErr, IfOk, IfSome, IsSome};
+ghost use Rattle.std.specs.Prelude.{◌≡◌, ◌<◌, is_some, map, Err, IfErr, IfOk, IfSome, IsOk};
+ghost use Rattle.std.specs.Prelude.{IsSome, OnOk};
 ghost use Rattle.std.specs.Arc.{arc_value};
 ghost use Rattle.std.specs.FinMap as map;
-ghost use Rattle.replica_store.specs.Durable.{KeepsRows};
+ghost use Rattle.replica_store.specs.{Durable.{KeepsRows}, Layout.{empty_schema}};
 ghost use Rattle.sqlite.specs.Held.{state};
 ghost use Rattle.rb_drive.specs.Run.{DriveEnds, IsOfThreads, IsStatus, ReportEnds};
-ghost use Rattle.rb_drive.specs.declared.fault.DriveFault.TheVariants.{Store};
+ghost use Rattle.rb_drive.specs.declared.fault.DriveFault.TheVariants.{Store, TooMany};
 
 use crate::accepting::{EndedSubscriber, SubscriberEnd};
 use crate::closing::Closable;
@@ -18,6 +19,7 @@ use crate::report::write_report;
 use cs_model::{CopyIn, Schema};
 use rb_broker::{Hall, Opened};
 use rb_desk::Config;
+use rb_subscriber::MOST_SUBSCRIPTIONS;
 use replica_store::{Replica, ReplicaError};
 use sqlite::{Alter, Connection, Error, ErrorCode, MemStore};
 use std::alloc::Global;
@@ -32,10 +34,10 @@ use std::thread::Threads;
 ///
 /// Returns 0, or 3 if a subscriber ended by a conflict.
 ///
-/// Returns `Line` with the first line that is none of an input, `Read` if the reader fails,
-/// `Stopped` if the threads were stopped, and `Memory`. Nothing is written then. Returns `Write` if
-/// the writer fails, or if memory runs out while the report is written. A prefix of it may be
-/// written then.
+/// Returns `TooMany` first of all, for more than 1,024 subscribers: nothing is read then. Returns
+/// `Line` with the first line that is none of an input, `Read` if the reader fails, `Stopped` if
+/// the threads were stopped, and `Memory`. Nothing is written then. Returns `Write` if the writer
+/// fails, or if memory runs out while the report is written. A prefix of it may be written then.
 pub fn run_drive<I: Read, W: Write, R: Threads + Wait + Sync>(
     rt: &R,
     alloc: Global,
@@ -46,6 +48,7 @@ pub fn run_drive<I: Read, W: Write, R: Threads + Wait + Sync>(
 ) -> Result<u8, DriveFault>
     ensures ends { DriveEnds config subscribers result (I.remaining reader.old)
         (I.remaining reader.new) (W.contents writer.old) (W.contents writer.new) }
+    ensures many { 1024 < subscribers → result ≡ Err TooMany }
     ensures unstored { result ≡ Err Store → ⊥ }
 {
     run_over::<MemStore, I, W, R>(rt, alloc, reader, writer, config, subscribers, None)
@@ -72,8 +75,11 @@ where
     I: Read,
     W: Write,
     R: Threads + Wait + Sync,
-    ensures { DriveEnds config subscribers result (I.remaining reader.old)
+    ensures ends { DriveEnds config subscribers result (I.remaining reader.old)
         (I.remaining reader.new) (W.contents writer.old) (W.contents writer.new) }
+    ensures many { 1024 < subscribers → result ≡ Err TooMany }
+    ensures opened { OnOk result (IsOk file) }
+    ensures blank { OnOk result (IfOk file (λ conn. conn.schema ≡ empty_schema)) }
 {
     run_over(rt, alloc, reader, writer, config, subscribers, Some(file))
 }
@@ -90,8 +96,15 @@ fn run_over<S: Closable + Drop + Send, I: Read, W: Write, R: Threads + Wait + Sy
 ) -> Result<u8, DriveFault>
     ensures ends { DriveEnds config subscribers result (I.remaining reader.old)
         (I.remaining reader.new) (W.contents writer.old) (W.contents writer.new) }
+    ensures many { 1024 < subscribers → result ≡ Err TooMany }
+    ensures opened { OnOk result (IfSome file IsOk) }
+    ensures blank { OnOk result (IfSome file (λ f.
+        IfOk f (λ conn. conn.schema ≡ empty_schema))) }
     ensures stored { result ≡ Err Store → IsSome file }
 {
+    if subscribers > MOST_SUBSCRIPTIONS {
+        return Err(DriveFault::TooMany);
+    }
     let Input { schema, givens } = read_input(alloc, reader)?;
     let shared = Arc::new(alloc, schema.copy_in(alloc)?)?;
     let lines = by_publisher(alloc, givens)?;
@@ -113,7 +126,10 @@ fn new_replica<S: Alter + Drop>(
 ) -> Result<Option<Replica<S>>, DriveFault>
     ensures keeps { IfOk result (λ replica.
         IfSome replica (λ r. KeepsRows (state S.Store r.conn) map.empty 0)) }
-    ensures given { IfOk result (λ replica. IsSome replica → IsSome file) }
+    ensures given { IfOk result (λ replica. is_some replica ≡ is_some file) }
+    ensures opened { OnOk result (IfSome file IsOk) }
+    ensures blank { OnOk result (IfSome file (λ f.
+        IfOk f (λ conn. conn.schema ≡ empty_schema))) }
     ensures err { IfErr result IsOfThreads }
     ensures stored { result ≡ Err Store → IsSome file }
 {
@@ -144,7 +160,7 @@ where
     S: Closable + Drop + Send,
     W: Write,
     R: Threads + Wait + Sync,
-    requires cells { opened.cells ≡ L.cells }
+    requires sequence { (opened.limits ≡ L.limits) × (opened.cells ≡ L.cells) }
     requires queue { opened.queue ≡ L.queue }
     requires ledger { (opened.ledger ≡ L.name) × (L.parts ≡ 1024) × (L.all ≡ 1024) }
     requires schema { arc_value plan.schema ≡ opened.schema }

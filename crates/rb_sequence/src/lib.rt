@@ -19,5 +19,5 @@ pub use form::FormBeside;
 pub use item::Item;
 pub use ready::Ready;
 pub use segment::{Cell, HoldsAny, HoldsItsCells, HoldsItsNumber};
-pub use sequence::{Filler, MOST_ENTRIES, Preparer, Sequence};
+pub use sequence::{Filler, Preparer, Sequence};
 pub use told::{Told, ToldLast};

@@ -12,9 +12,6 @@ use std::alloc::{AllocError, Global};
 use std::marker::Model;
 use std::sync::Arc;
 
-/// The most entries that a sequence can hold.
-pub const MOST_ENTRIES: u64 = 16_777_216;
-
 /// A sequence of entries: a cell for each number from 1 to the capacity, and a closing cell. A cell
 /// is set once, and shows its entry from then on. Cells stand in segments of 65,536; a segment is
 /// made when its first entry is made ready.

@@ -102,6 +102,14 @@ impl ToldLast {
             written: self.written.again(),
         }
     }
+
+    /// Two tokens of one closing cell show one last number. Does nothing else.
+    pub fn same(&self, other: &ToldLast)
+        requires { self.now.cell ≡ other.now.cell }
+        ensures { self.now.last ≡ other.now.last }
+    {
+        self.written.agrees(&other.written);
+    }
 }
 
 impl fmt::Debug for ToldLast {

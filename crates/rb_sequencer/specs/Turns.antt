@@ -2,9 +2,10 @@
 use Rattle.std.specs.Prelude.{◌≡◌, ℕ, zero, suc, List, [], ◌∷◌, ◌++◌, length, map, Option, Some}
 use Rattle.std.specs.Prelude.{None}
 use Rattle.std.specs.Prelude.{slice_get, ◌⊎◌}
+use Rattle.rb_desk.specs.Limits.{Limits}
 use Rattle.rb_sequence.specs.Cells.{Cells, CellToken, IsTokenOf}
 use Rattle.rb_sequence.specs.declared.item.Item.{Item}
-use Rattle.rb_broker.specs.Placing.{DeskRefuses, ShowsWhy}
+use Rattle.rb_broker.specs.Placing.{DeskPlaces, DeskRefuses, ShowsWhy}
 use Rattle.rb_sequencer.specs.declared.turn.Turn.{Turn}
 use Rattle.rb_sequencer.specs.declared.turn.Turn.TheVariants.{Placed, Idle, Refused}
 
@@ -34,16 +35,18 @@ TakesUp None old new = (x : Item)
     × (new ≡ record old { pulled = old.pulled ++ x ∷ []; hand = Some x })
 
 -- What a turn does. The item in hand, which it may have taken up, becomes an entry, whose number is
--- one more than that of the entry before; or nothing waits; or the item stays in hand. Then the
--- desk refuses so, and where the sequence is closed, the refusal shows its last number.
-abbrev pub IsTurn : Cells → SequencerState → SequencerState → Turn → Type 0
-IsTurn cells old new (Placed told) = (mid : SequencerState) × TakesUp old.hand old mid
+-- one more than that of the entry before, and the desk places that number; or nothing waits; or the
+-- item stays in hand. Then the desk refuses so, and where the sequence is closed, the refusal shows
+-- its last number.
+abbrev pub IsTurn : Limits → Cells → SequencerState → SequencerState → Turn → Type 0
+IsTurn limits cells old new (Placed told) = (mid : SequencerState) × TakesUp old.hand old mid
     × (mid.hand ≡ Some told.entry.item) × IsTokenOf cells told
     × (told.number ≡ suc (length old.placed)) × (told.entry.number ≡ told.number)
     × (new ≡ record mid { placed = old.placed ++ told ∷ []; hand = None })
-IsTurn cells old new Idle = (old.hand ≡ None) × (new ≡ old)
-IsTurn cells old new (Refused why) = TakesUp old.hand old new × ShowsWhy cells why
-    × DeskRefuses cells why
+    × DeskPlaces limits told.number
+IsTurn limits cells old new Idle = (old.hand ≡ None) × (new ≡ old)
+IsTurn limits cells old new (Refused why) = TakesUp old.hand old new × ShowsWhy cells why
+    × DeskRefuses limits cells why
 
 -- ---- the two halves of a turn
 
@@ -52,9 +55,12 @@ abbrev pub FillsHand : SequencerState → SequencerState → Type 0
 FillsHand old new = TakesUp old.hand old new ⊎ ((old.hand ≡ None) × (new ≡ old))
 
 -- the item in hand becomes the next entry, or stays
-abbrev pub PlacesHand : Cells → SequencerState → SequencerState → Turn → Type 0
-PlacesHand cells old new (Placed told) = (old.hand ≡ Some told.entry.item) × IsTokenOf cells told
-    × (told.number ≡ suc (length old.placed)) × (told.entry.number ≡ told.number)
+abbrev pub PlacesHand : Limits → Cells → SequencerState → SequencerState → Turn → Type 0
+PlacesHand limits cells old new (Placed told) = (old.hand ≡ Some told.entry.item)
+    × IsTokenOf cells told × (told.number ≡ suc (length old.placed))
+    × (told.entry.number ≡ told.number)
     × (new ≡ record old { placed = old.placed ++ told ∷ []; hand = None })
-PlacesHand cells old new Idle = ⊥
-PlacesHand cells old new (Refused why) = (new ≡ old) × ShowsWhy cells why × DeskRefuses cells why
+    × DeskPlaces limits told.number
+PlacesHand limits cells old new Idle = ⊥
+PlacesHand limits cells old new (Refused why) = (new ≡ old) × ShowsWhy cells why
+    × DeskRefuses limits cells why

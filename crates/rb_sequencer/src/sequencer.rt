@@ -90,7 +90,7 @@ impl<L: Hall> Sequencer<L> {
     /// Returns `Idle` if nothing waits. `Refused` leaves the item in hand: the journal is full, the
     /// sequence is closed or full, its cell is set, or memory ran out.
     pub fn turn<R: Wait>(&mut self, rt: &R, alloc: Global, broker: &Broker<L>) -> Turn
-        ensures { IsTurn L.cells self.old self.new result }
+        ensures { IsTurn L.limits L.cells self.old self.new result }
     {
         self.take_up(rt, broker);
         if self.hand.is_none() {
@@ -122,7 +122,7 @@ impl<L: Hall> Sequencer<L> {
     // places the item in hand
     fn place<R: Wait>(&mut self, rt: &R, alloc: Global, broker: &Broker<L>) -> Turn
         requires { IsSome self.old.hand }
-        ensures { PlacesHand L.cells self.old self.new result }
+        ensures { PlacesHand L.limits L.cells self.old self.new result }
     {
         if self.told.reserve(1).is_err() {
             return Turn::Refused(PlaceRefusal::Memory);

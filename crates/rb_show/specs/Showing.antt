@@ -30,11 +30,12 @@ IsShownInPart form r0 r w0 w =
     (input : List ℕ) × Consumes r0 r input × AppendsFront w0 w (rows_shown form input).0
 
 -- How `show` ends, by its result. The reader had r0 left and has r; the writer held w0 and holds w.
+-- Nothing is written before the reader is at its end.
 abbrev pub ShowEnds : {A : Type 0} → RowForm → Result A ShowFault → Option (List ℕ)
     → Option (List ℕ) → Option (List ℕ) → Option (List ℕ) → Type 0
 ShowEnds form (Ok done) r0 r w0 w = IsShownWhole form None r0 r w0 w
 ShowEnds form (Err (Read why)) r0 r w0 w = IsUnread r0 r w0 w
-ShowEnds form (Err (Write why)) r0 r w0 w = IsShownInPart form r0 r w0 w
+ShowEnds form (Err (Write why)) r0 r w0 w = IsAtEnd r × IsShownInPart form r0 r w0 w
 ShowEnds form (Err (Row n)) r0 r w0 w = IsShownWhole form (Some n) r0 r w0 w
 ShowEnds form (Err Memory) r0 r w0 w = IsShownInPart form r0 r w0 w
 

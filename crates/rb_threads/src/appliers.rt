@@ -8,7 +8,7 @@ use crate::recorded::{FIFTH, FOURTH, THREE};
 use cs_apply::{ApplyError, Tables};
 use cs_model::{Changeset, CopyIn, Schema, Seq, Shape};
 use cs_parse::parse;
-use par_apply::{Gate, Open, apply_split, plan_changes, split};
+use par_apply::{Gate, Open, apply_split, split};
 use std::alloc::{AllocError, Global};
 use std::process::Abort;
 use std::sync::Arc;
@@ -214,21 +214,44 @@ fn ends<R: Abort>(
     Ok(())
 }
 
-// Holds each shard until all have entered.
+// Holds each shard until all have entered, and counts how often each has.
 #[derive(Drop)]
 struct Meeting<'a, R> {
     rt: &'a R,
-    shards: usize,
-    entered: AtomicUsize,
+    entered: Vec<AtomicUsize>,
     is_late: AtomicBool,
 }
 
+impl<'a, R> Meeting<'a, R> {
+    fn new(rt: &'a R, alloc: Global, shards: usize) -> Result<Meeting<'a, R>, AllocError> {
+        let mut entered = Vec::new(alloc);
+        for _ in 0..shards {
+            entered.push(AtomicUsize::new(0))?;
+        }
+        Ok(Meeting {
+            rt,
+            entered,
+            is_late: AtomicBool::new(false),
+        })
+    }
+
+    fn have_all_entered(&self) -> bool {
+        for times in &self.entered {
+            if times.load(Ordering::SeqCst) == 0 {
+                return false;
+            }
+        }
+        true
+    }
+}
+
 impl<R: Clock + Sync> Gate for Meeting<'_, R> {
-    fn enter(&self, _shard: usize) {
-        self.entered.fetch_add(1, Ordering::SeqCst);
+    fn enter(&self, shard: usize) {
+        if let Some(times) = self.entered.get(shard) {
+            times.fetch_add(1, Ordering::SeqCst);
+        }
         for _ in 0..MOST_TURNS {
-            let entered = self.entered.load(Ordering::SeqCst);
-            if entered >= self.shards || self.is_late.load(Ordering::SeqCst) {
+            if self.have_all_entered() || self.is_late.load(Ordering::SeqCst) {
                 return;
             }
             sleep(self.rt, Duration::from_millis(1));
@@ -239,6 +262,7 @@ impl<R: Clock + Sync> Gate for Meeting<'_, R> {
 
 #[test]
 fn appliers_run_at_once(rt: HostRuntime) -> Result<(), Fail> {
+    meet(&rt, rt.alloc(), 1)?;
     meet(&rt, rt.alloc(), 2)?;
     meet(&rt, rt.alloc(), 16)
 }
@@ -257,10 +281,13 @@ fn meet<R: Threads + Clock + Abort + Sync>(rt: &R, alloc: Global, n: usize) -> R
     requires some { 0 < n }
     requires few { n ≤ 16 }
 {
-    let tables = tables(alloc, &[1, 0])?;
+    let mut tables = tables(alloc, &[1, 0])?;
     let changeset = inserts(alloc, n)?;
     have_one_each(rt, &split(alloc, &changeset, tables.schema(), n)?);
-    plans_at_once(rt, alloc, &tables, &changeset, n)
+    let meeting = Meeting::new(rt, alloc, n)?;
+    apply_split(rt, alloc, &mut tables, &changeset, n, &meeting)?;
+    assert_eq!(rt; tables.rows_in_order(alloc)?.len(), n);
+    have_met(rt, &meeting)
 }
 
 fn have_one_each<R: Abort>(rt: &R, shards: &[Vec<usize>]) {
@@ -269,25 +296,11 @@ fn have_one_each<R: Abort>(rt: &R, shards: &[Vec<usize>]) {
     }
 }
 
-fn plans_at_once<R: Threads + Clock + Abort + Sync>(
-    rt: &R,
-    alloc: Global,
-    tables: &Tables,
-    changeset: &Changeset,
-    n: usize,
-) -> Result<(), Fail>
-    requires some { 0 < n }
-    requires few { n ≤ 16 }
-{
-    let meeting = Meeting {
-        rt,
-        shards: n,
-        entered: AtomicUsize::new(0),
-        is_late: AtomicBool::new(false),
-    };
-    let plan = plan_changes(rt, alloc, tables, changeset, n, &meeting)?;
-    let entered = meeting.entered.load(Ordering::SeqCst);
-    assert_eq!(rt; (entered, plan.changes().len()), (n, n));
+// Each shard has entered once, and none waited in vain.
+fn have_met<R: Abort>(rt: &R, meeting: &Meeting<R>) -> Result<(), Fail> {
+    for times in &meeting.entered {
+        assert_eq!(rt; times.load(Ordering::SeqCst), 1);
+    }
     // memory for a thread may run out: then one shard is planned after another
     if meeting.is_late.load(Ordering::SeqCst) {
         return Err(Fail::new("the shards aren't planned at once"));

@@ -53,7 +53,7 @@ fn run<L: Hall + Send + Sync, R: Threads + Wait + Sync, W: Write>(
     changesets: &[&[u8]],
     out: &mut W,
 ) -> Result<()>
-    requires cells { opened.cells ≡ L.cells }
+    requires sequence { (opened.limits ≡ L.limits) × (opened.cells ≡ L.cells) }
     requires queue { opened.queue ≡ L.queue }
     requires ledger { (opened.ledger ≡ L.name) × (L.parts ≡ 1024) × (L.all ≡ 1024) }
 {

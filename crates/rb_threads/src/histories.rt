@@ -103,7 +103,7 @@ fn goes<L: Hall, R: Threads + Wait + Abort + Sync>(
     opened: Opened,
     scenario: Scenario,
 ) -> Result<(), Fail>
-    requires cells { opened.cells ≡ L.cells }
+    requires sequence { (opened.limits ≡ L.limits) × (opened.cells ≡ L.cells) }
     requires queue { opened.queue ≡ L.queue }
     requires ledger { (opened.ledger ≡ L.name) × (L.parts ≡ 1024) × (L.all ≡ 1024) }
 {
@@ -223,16 +223,17 @@ fn crowds<L: Hall, R: Threads + Wait + Abort + Sync>(
     history.run(rt, alloc, str::from_utf8(ONE_MORE_AND_THE_LAST)?)
 }
 
-// Each refusal hands all back. What is left is the item in hand, then what waits in the intake.
+// Each refusal hands all back. That the sequence is open comes before that a publisher is missing.
+// What is left is the item in hand, then what waits in the intake.
 fn finishes<L: Hall, R: Wait + Abort>(
     rt: &R,
     alloc: Global,
     history: History<L>,
 ) -> Result<(), Fail> {
-    let open = refused(rt, alloc, unfinished(history), FinishRefusal::NotClosed)?;
+    let (open, last) = without_one(unfinished(history))?;
+    let open = refused(rt, alloc, open, FinishRefusal::NotClosed)?;
     assert_eq!(rt; open.broker.close(rt).map(|told| told.last()), Some(1));
-    let (one, last) = without_one(open)?;
-    let one = refused(rt, alloc, one, FinishRefusal::Missing)?;
+    let one = refused(rt, alloc, open, FinishRefusal::Missing)?;
     match try_twice(rt, alloc, with_one(one, last)?) {
         Ok(finished) => has_left(rt, alloc, &finished),
         Err(_) => Err(Fail::new("nothing is missing")),

@@ -98,7 +98,7 @@ pub fn made<T>(found: Option<T>) -> Result<T, Fail> {
 impl<L: Hall> History<L> {
     /// The broker that was opened, with one publisher.
     pub fn start(alloc: Global, opened: Opened) -> Result<History<L>, Fail>
-        requires cells { opened.cells ≡ L.cells }
+        requires sequence { (opened.limits ≡ L.limits) × (opened.cells ≡ L.cells) }
         requires queue { opened.queue ≡ L.queue }
         requires ledger { (opened.ledger ≡ L.name) × (L.parts ≡ 1024) × (L.all ≡ 1024) }
     {

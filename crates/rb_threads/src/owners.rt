@@ -103,7 +103,7 @@ fn all_arrive<L: Hall + Send + Sync, R: Threads + Wait + Abort + Sync>(
     opened: Opened,
     load: Load,
 ) -> Result<(), Fail>
-    requires cells { opened.cells ≡ L.cells }
+    requires sequence { (opened.limits ≡ L.limits) × (opened.cells ≡ L.cells) }
     requires queue { opened.queue ≡ L.queue }
     requires ledger { (opened.ledger ≡ L.name) × (L.parts ≡ 1024) × (L.all ≡ 1024) }
 {

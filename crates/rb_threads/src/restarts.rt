@@ -100,7 +100,7 @@ fn lives<L: Hall, S: Alter + Drop, R: Threads + Wait + Abort + Sync>(
     conn: Connection<S>,
     life: &Life,
 ) -> Result<Connection<S>, Fail>
-    requires cells { opened.cells ≡ L.cells }
+    requires sequence { (opened.limits ≡ L.limits) × (opened.cells ≡ L.cells) }
     requires queue { opened.queue ≡ L.queue }
     requires ledger { (opened.ledger ≡ L.name) × (L.parts ≡ 1024) × (L.all ≡ 1024) }
 {

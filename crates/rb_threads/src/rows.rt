@@ -81,7 +81,7 @@ subscribe 0 = Made
 put 1 = Placed(1)
 put 2 = Placed(2)
 put 3 = Placed(3)
-take 0 0 = Delivery(1, 0, 1, 1)
+any 0 = Delivery(1, 0, 1, 1)
 take 0 0 = Delivery(2, 0, 2, 2)
 take 0 0 = Desk(WindowFull)
 nack 0 1 = Done
@@ -96,7 +96,7 @@ unsubscribe 0 = Desk(Closed)
 reconnect 0 = Desk(Closed)
 ack 0 3 = Desk(NotInFlight)
 any 0 = Desk(Empty { front: 3 })",
-    6,
+    5,
 );
 
 pub const A_REFUSED_BATCH_IS_OPENED: Row = (
@@ -170,6 +170,8 @@ subscribe 0 = Made
 put 1 = Placed(1)
 take 0 5 = Delivery(1, 0, 1, 1)
 accept 0 0 = Accepted(1)
+take 0 15 = Desk(Empty { front: 1 })
+any 15 = Desk(Empty { front: 1 })
 expire 14 = Expired(0)
 expire 15 = Expired(1)
 take 0 15 = Delivery(2, 0, 1, 1)

@@ -154,7 +154,7 @@ fn tried_at<L: Hall, R: Wait + Threads + Sync>(
     loss: Loss,
     commits: &Commits,
 ) -> io::Result<Fate>
-    requires cells { opened.cells ≡ L.cells }
+    requires sequence { (opened.limits ≡ L.limits) × (opened.cells ≡ L.cells) }
     requires queue { opened.queue ≡ L.queue }
     requires ledger { (opened.ledger ≡ L.name) × (L.parts ≡ 1024) × (L.all ≡ 1024) }
 {

@@ -1,11 +1,12 @@
 -- Steps and runs: what a reply says of a step, that a step preserves the invariant of a world, and that runs grow at
 -- their end.
-use Rattle.std.proofs.Common.{◌≡◌, List, [], ◌∷◌, ◌++◌, Ok, Err, refl, sym, subst}
+use Rattle.std.proofs.Common.{◌≡◌, List, [], ◌∷◌, ◌++◌, Ok, Err, refl, sym, ap, subst}
 use Rattle.std.specs.Prelude.{IfOk, OnErr}
 use Rattle.rb_core.specs.declared.event.Event.{Event}
 use Rattle.rb_core.specs.declared.reply.Reply.{Reply}
+use Rattle.rb_core.specs.Memory.{MayRunOut}
 use Rattle.rb_core.specs.Outcome.{outcome}
-use Rattle.rb_core.specs.Run.{Answer, Stepped, Run}
+use Rattle.rb_core.specs.Run.{Answer, Run, RunsOutWhereItMay, Stepped}
 use Rattle.rb_core.specs.State.{State, IsWorld}
 
 -- what a step's contract says is that it stepped
@@ -34,3 +35,23 @@ Run-push old mid new [] event (a ∷ answers) answer run step = absurd run
 Run-push old mid new (e ∷ events) event [] answer run step = absurd run
 Run-push old mid new (e ∷ events) event (a ∷ answers) answer run step =
     (run.0, run.1, Run-push run.0 mid new events event answers answer run.2 step)
+
+-- for which memory runs out only where it may
+pub runs_out-push : (old mid : State) (events : List Event) (event : Event) (answers : List Answer) (answer : Answer)
+    → Run old events answers mid → RunsOutWhereItMay old events answers
+    → OnErr answer (MayRunOut mid event (outcome mid event).0)
+    → RunsOutWhereItMay old (events ++ event ∷ []) (answers ++ answer ∷ [])
+runs_out-push old mid [] event [] (Ok given) run so may = tt
+runs_out-push old mid [] event [] (Err e) run so may =
+    (subst (λ (s : State). MayRunOut s event (outcome s event).0) run may, tt)
+runs_out-push old mid [] event (a ∷ answers) answer run so may = absurd run
+runs_out-push old mid (e ∷ events) event [] answer run so may = absurd run
+runs_out-push old mid (e ∷ events) event (Ok given ∷ answers) answer run so may =
+    let next : run.0 ≡ (outcome old e).1 = ap (λ (x : Reply × State). x.1) (sym run.1) in
+    runs_out-push (outcome old e).1 mid events event answers answer
+    (subst (λ (s : State). Run s events answers mid) next run.2) so may
+runs_out-push old mid (e ∷ events) event (Err x ∷ answers) answer run so may = (
+  so.0,
+  runs_out-push old mid events event answers answer
+      (subst (λ (s : State). Run s events answers mid) run.1 run.2) so.1 may,
+)

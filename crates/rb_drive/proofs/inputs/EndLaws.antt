@@ -80,6 +80,7 @@ last_so_stops : (reading : Reading) (why : DriveFault) (after : Input) → readi
 last_so_stops reading (fault.Read why) after some h bytes r = absurd h
 last_so_stops reading (fault.Write why) after some h bytes r = absurd h
 last_so_stops reading (fault.Line n) after some h bytes r = last_line_is_bad reading n some h.0 h.1 bytes r
+last_so_stops reading fault.TooMany after some h bytes r = absurd h
 last_so_stops reading fault.Stopped after some h bytes r = absurd h
 last_so_stops reading fault.Store after some h bytes r = absurd h
 last_so_stops reading fault.Memory after some h bytes r = tt
@@ -133,6 +134,7 @@ pub ends_at_stop : (why : DriveFault) (bytes : List ℕ) (A : Type 0) (r0 r : Op
 ends_at_stop (fault.Read why) bytes A r0 r leads read h = absurd h
 ends_at_stop (fault.Write why) bytes A r0 r leads read h = absurd h
 ends_at_stop (fault.Line n) bytes A r0 r leads read h = (bytes, read, bad_there bytes A (IsAtEnd r) n leads h)
+ends_at_stop fault.TooMany bytes A r0 r leads read h = absurd h
 ends_at_stop fault.Stopped bytes A r0 r leads read h = absurd h
 ends_at_stop fault.Store bytes A r0 r leads read h = absurd h
 ends_at_stop fault.Memory bytes A r0 r leads read h = (bytes, read)

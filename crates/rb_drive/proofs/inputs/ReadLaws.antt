@@ -111,6 +111,7 @@ adding_so_stops : (reading : Reading) (b : ℕ) (why : DriveFault) (after : Inpu
 adding_so_stops reading b (fault.Read why) after is h before r = absurd h
 adding_so_stops reading b (fault.Write why) after is h before r = absurd h
 adding_so_stops reading b (fault.Line n) after is h before r = line_is_bad reading b n is h.0 h.1 before r
+adding_so_stops reading b fault.TooMany after is h before r = absurd h
 adding_so_stops reading b fault.Stopped after is h before r = absurd h
 adding_so_stops reading b fault.Store after is h before r = absurd h
 adding_so_stops reading b fault.Memory after is h before r = tt
@@ -160,6 +161,7 @@ stops_at_longer : (bytes more : List ℕ) (why : DriveFault) → ReadingStopsAt 
 stops_at_longer bytes more (fault.Read why) h = absurd h
 stops_at_longer bytes more (fault.Write why) h = absurd h
 stops_at_longer bytes more (fault.Line n) h = bad_stays bytes more ⊥ ⊥ n (λ (e : ⊥). absurd e) h
+stops_at_longer bytes more fault.TooMany h = absurd h
 stops_at_longer bytes more fault.Stopped h = absurd h
 stops_at_longer bytes more fault.Store h = absurd h
 stops_at_longer bytes more fault.Memory h = tt

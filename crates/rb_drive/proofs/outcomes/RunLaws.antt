@@ -36,6 +36,7 @@ drive_ends_by limits n (Err fault.Store) tables givens cells lines r0 r w0 w rea
     ((tables, givens, reads), h)
 drive_ends_by limits n (Err fault.Memory) tables givens cells lines r0 r w0 w reads cap own h =
     ((reads.0, reads.2), h)
+drive_ends_by limits n (Err fault.TooMany) tables givens cells lines r0 r w0 w reads cap own h = absurd h
 drive_ends_by limits n (Err (fault.Line line)) tables givens cells lines r0 r w0 w reads cap own h = absurd h
 drive_ends_by limits n (Err (fault.Read why)) tables givens cells lines r0 r w0 w reads cap own h = absurd h
 
@@ -57,6 +58,7 @@ pub ends_unreported : (limits : Limits) (n : ℕ) (why : DriveFault) (tables : L
 ends_unreported limits n fault.Stopped tables givens r0 r w reads is = ((tables, givens, reads), keeps_itself w)
 ends_unreported limits n fault.Store tables givens r0 r w reads is = ((tables, givens, reads), keeps_itself w)
 ends_unreported limits n fault.Memory tables givens r0 r w reads is = ((reads.0, reads.2), keeps_itself w)
+ends_unreported limits n fault.TooMany tables givens r0 r w reads is = absurd is
 ends_unreported limits n (fault.Line line) tables givens r0 r w reads is = absurd is
 ends_unreported limits n (fault.Read why) tables givens r0 r w reads is = absurd is
 ends_unreported limits n (fault.Write why) tables givens r0 r w reads is = absurd is

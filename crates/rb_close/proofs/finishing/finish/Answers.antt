@@ -7,6 +7,10 @@ pub end-requires-clause-given : goal.end-requires-clause-given
 end-requires-clause-given g c =
     subst (λ ps. AreAllPresent c.args.maker ps) c.deref.ensures.value c.in-Ok.ensures.given
 
+pub returns-in-Ok-clause-all : goal.returns-in-Ok-clause-all
+returns-in-Ok-clause-all g c =
+    subst (λ ps. AreAllPresent c.args.maker ps) c.deref.ensures.value c.in-Ok.ensures.given
+
 pub returns-in-Err-clause-why : goal.returns-in-Err-clause-why
 returns-in-Err-clause-why g c =
     subst (λ ps. RefusesFinish c.args.maker ps c.in-Err.why) c.deref.ensures.value c.in-Err.ensures.err

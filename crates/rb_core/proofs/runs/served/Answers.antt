@@ -4,7 +4,7 @@ use Rattle.rb_core.specs.declared.event.Event.{Event}
 use Rattle.rb_core.specs.Run.{FeedsBytes}
 use Rattle.rb_core.specs.State.{empty_world}
 use Rattle.cs_model.proofs.CallerLemmas.{all_push}
-use Rattle.rb_core.proofs.whole_runs.RunLaws.{Run-push, Stepped-from}
+use Rattle.rb_core.proofs.whole_runs.RunLaws.{Run-push, Stepped-from, runs_out-push}
 use Rattle.rb_core.proofs.runs.served.Goals as goal
 
 pub loop-event-preserved : goal.loop-event-preserved
@@ -24,4 +24,7 @@ loop-event-preserved c =
       next,
       all_push FeedsBytes (take c.loop-event.event-index c.args.events.now)
           c.event-item.result c.loop-event.invariant.1 c.feeds_bytes.ensures,
+      runs_out-push (empty_world c.args.config c.args.schema) c.loop-event.world
+          (take c.loop-event.event-index c.args.events.now) c.event-item.result c.loop-event.answers.items
+          c.serve-answer.result c.loop-event.invariant.0 c.loop-event.invariant.2 c.serve-answer.ensures.memory,
     )

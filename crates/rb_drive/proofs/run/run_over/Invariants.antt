@@ -8,4 +8,4 @@ abbrev pub ghosts-report-L-StepLedger : goal.ghosts-report-L-StepLedger
 ghosts-report-L-StepLedger g a = record { all = 1024; cells = a.opened.cells }
 
 abbrev pub ghosts-report-L-Hall : goal.ghosts-report-L-Hall
-ghosts-report-L-Hall g a = record { queue = a.opened.queue }
+ghosts-report-L-Hall g a = record { limits = a.opened.limits; queue = a.opened.queue }

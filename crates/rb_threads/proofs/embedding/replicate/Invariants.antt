@@ -8,4 +8,4 @@ abbrev pub ghosts-run-L-StepLedger : goal.ghosts-run-L-StepLedger
 ghosts-run-L-StepLedger g a = record { all = 1024; cells = a.opened.cells }
 
 abbrev pub ghosts-run-L-Hall : goal.ghosts-run-L-Hall
-ghosts-run-L-Hall g a = record { queue = a.opened.queue }
+ghosts-run-L-Hall g a = record { limits = a.opened.limits; queue = a.opened.queue }

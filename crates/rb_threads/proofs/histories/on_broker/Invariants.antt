@@ -8,4 +8,4 @@ abbrev pub ghosts-goes-L-StepLedger : goal.ghosts-goes-L-StepLedger
 ghosts-goes-L-StepLedger g a = record { all = 1024; cells = a.opened.cells }
 
 abbrev pub ghosts-goes-L-Hall : goal.ghosts-goes-L-Hall
-ghosts-goes-L-Hall g a = record { queue = a.opened.queue }
+ghosts-goes-L-Hall g a = record { limits = a.opened.limits; queue = a.opened.queue }

@@ -8,4 +8,4 @@ abbrev pub ghosts-all_arrive-L-StepLedger : goal.ghosts-all_arrive-L-StepLedger
 ghosts-all_arrive-L-StepLedger g a = record { all = 1024; cells = a.opened.cells }
 
 abbrev pub ghosts-all_arrive-L-Hall : goal.ghosts-all_arrive-L-Hall
-ghosts-all_arrive-L-Hall g a = record { queue = a.opened.queue }
+ghosts-all_arrive-L-Hall g a = record { limits = a.opened.limits; queue = a.opened.queue }

@@ -8,4 +8,4 @@ abbrev pub ghosts-lives-L-StepLedger : goal.ghosts-lives-L-StepLedger
 ghosts-lives-L-StepLedger g a = record { all = 1024; cells = a.opened.cells }
 
 abbrev pub ghosts-lives-L-Hall : goal.ghosts-lives-L-Hall
-ghosts-lives-L-Hall g a = record { queue = a.opened.queue }
+ghosts-lives-L-Hall g a = record { limits = a.opened.limits; queue = a.opened.queue }

@@ -8,4 +8,4 @@ abbrev pub ghosts-tried_at-L-StepLedger : goal.ghosts-tried_at-L-StepLedger
 ghosts-tried_at-L-StepLedger g a = record { all = 1024; cells = a.opened.cells }
 
 abbrev pub ghosts-tried_at-L-Hall : goal.ghosts-tried_at-L-Hall
-ghosts-tried_at-L-Hall g a = record { queue = a.opened.queue }
+ghosts-tried_at-L-Hall g a = record { limits = a.opened.limits; queue = a.opened.queue }

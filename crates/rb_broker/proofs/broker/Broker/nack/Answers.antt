@@ -2,4 +2,4 @@ use Rattle.rb_broker.proofs.broker.Broker.nack.Goals as goal
 
 -- the desk that the lock holds returns it
 pub returns-clause-desk : goal.returns-clause-desk
-returns-clause-desk g c = (_, _, c.nack.ensures.replay, c.nack.ensures.desk)
+returns-clause-desk g c = (_, _, c.nack.ensures.held, c.nack.ensures.desk)

@@ -2,4 +2,4 @@ use Rattle.rb_broker.proofs.broker.Broker.reconnect.Goals as goal
 
 -- the desk that the lock holds returns it
 pub returns-clause-desk : goal.returns-clause-desk
-returns-clause-desk g c = (_, _, c.reconnect.ensures.replay, c.reconnect.ensures.desk)
+returns-clause-desk g c = (_, _, c.reconnect.ensures.held, c.reconnect.ensures.desk)

@@ -12,9 +12,9 @@ returns-clause-refused g c =
 -- the desk that the lock holds returns it
 pub returns-clause-link : goal.returns-clause-link
 returns-clause-link g c =
-    link_returns c.resume.result c.args.lost c.args.tables c.args.cursor _ _ c.resume.ensures.replay c.resume.ensures.made
+    link_returns g.L.Hall.limits c.resume.result c.args.lost c.args.tables c.args.cursor _ _ c.resume.ensures.held c.resume.ensures.made
 
 pub returns-clause-desk : goal.returns-clause-desk
 returns-clause-desk g c =
-    refusal_returns c.resume.result c.args.lost c.args.tables c.args.cursor _ _ c.resume.ensures.replay
+    refusal_returns g.L.Hall.limits c.resume.result c.args.lost c.args.tables c.args.cursor _ _ c.resume.ensures.held
     c.resume.ensures.made

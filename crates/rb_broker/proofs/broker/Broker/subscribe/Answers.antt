@@ -9,4 +9,4 @@ returns-clause-refused g c =
 
 pub returns-clause-desk : goal.returns-clause-desk
 returns-clause-desk g c =
-    subscribes_after c.subscribe.result c.args.tables c.args.start _ _ c.subscribe.ensures.replay c.subscribe.ensures.made
+    subscribes_after g.L.Hall.limits c.subscribe.result c.args.tables c.args.start _ _ c.subscribe.ensures.held c.subscribe.ensures.made

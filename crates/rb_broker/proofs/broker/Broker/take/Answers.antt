@@ -2,4 +2,4 @@ use Rattle.rb_broker.proofs.broker.Broker.take.Goals as goal
 
 -- the desk that the lock holds returns it
 pub returns-clause-desk : goal.returns-clause-desk
-returns-clause-desk g c = (_, _, c.take.ensures.replay, c.take.ensures.desk)
+returns-clause-desk g c = (_, _, c.take.ensures.held, c.take.ensures.desk)

@@ -2,7 +2,6 @@ use Rattle.std.proofs.Common.{◌∙◌, ◌++◌, ℕ, List, length, Some, sym,
 use Rattle.std.proofs.lemmas.List.{append-nil}
 use Rattle.rb_desk.specs.declared.step.Step.{Step}
 use Rattle.rb_desk.specs.Journaled.{counted_steps, is_own}
-use Rattle.rb_desk.specs.Limits.{Limits}
 use Rattle.rb_desk.specs.Picture.{Picture}
 use Rattle.rb_sequence.specs.Cells.{Cells, LastToken}
 use Rattle.rb_broker.proofs.HoldLaws.{closing_counts, none_shown, some_shown}
@@ -10,8 +9,8 @@ use Rattle.rb_broker.proofs.PlaceLaws.{closed_again, closes_at_front}
 use Rattle.rb_broker.proofs.locked.Locked.close.Goals as goal
 
 -- it is closed already
-pub returns-in-Some : goal.returns-in-Some
-returns-in-Some g c =
+pub returns-in-Some-clause-closed : goal.returns-in-Some-clause-closed
+returns-in-Some-clause-closed g c =
     let old = c.args.self.now in
     let p = old.desk.picture in
     let shows = some_shown g.L.StepLedger.cells p.closing old.closing c.in-Some.told c.in-Some.is old.closes in
@@ -24,6 +23,7 @@ returns-in-Some g c =
 
 pub invariant_of-self : goal.invariant_of-self
 invariant_of-self g c = record {
+  limits = c.args.self.now.limits;
   fits = c.args.self.now.fits;
   fills = c.args.self.now.fills;
   closes = c.args.self.now.closes;
@@ -47,7 +47,8 @@ invariant_of-self-2 g c =
     let counts = closing_counts old.desk p.closing (λ desk x q. c.steps_are_counted.ensures.own desk x q) in
     let steps = ap (λ (xs : List Step). counted_steps is_own xs) c.close.ensures.steps in
     record {
-      fits = ap (λ (x : ℕ × Picture). x.1.limits.capacity) (sym answer) ∙ ap (λ (l : Limits). l.capacity) keeps.0 ∙ old.fits;
+      limits = ap (λ (x : ℕ × Picture). x.1.limits) (sym answer) ∙ keeps.0 ∙ old.limits;
+      fits = old.fits;
       fills = c.fill_closing.ensures.same ∙ old.fills;
       closes = (
         ap (λ n. Some n) (shown ∙ sym at_front.0) ∙ sym at_front.1
@@ -59,8 +60,8 @@ invariant_of-self-2 g c =
       made = old.made ∙ sym (ap (λ (x : ℕ × Picture). length x.1.subscriptions) (sym answer) ∙ keeps.1);
     }
 
-pub returns : goal.returns
-returns g c =
+pub returns-clause-closed : goal.returns-clause-closed
+returns-clause-closed g c =
     let old = c.args.self.now in
     let p = old.desk.picture in
     let open_ = none_shown g.L.StepLedger.cells p.closing old.closing c.in_default.is old.closes in (

@@ -13,10 +13,11 @@ invariant_of-self g c =
     let old = c.args.self.now in
     let keeps = step_keeps old.desk c.place.new.self _ _ (λ desk x p. c.steps_are_counted.ensures.own desk x p)
     (c.only_subscribe_and_close.ensures.place old.desk.picture) c.place.ensures.new in
-    let k = holds_still g.L.StepLedger.cells _ _ _ old.closing old.register keeps refl
-    (record { fits = old.fits; closes = old.closes; total = old.total; made = old.made }) in
+    let k = holds_still g.L.Hall.limits g.L.StepLedger.cells _ _ _ old.closing old.register keeps refl
+    (record { limits = old.limits; closes = old.closes; total = old.total; made = old.made }) in
     record {
-      fits = k.fits;
+      limits = k.limits;
+      fits = old.fits;
       fills = c.fill.ensures.same ∙ old.fills;
       closes = k.closes;
       all = old.all;

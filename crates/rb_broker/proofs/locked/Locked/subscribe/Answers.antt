@@ -1,7 +1,6 @@
 use Rattle.std.proofs.Common.{◌∙◌, length, sym, ap, arith}
 use Rattle.rb_desk.specs.Calls.{subscribe}
 use Rattle.rb_desk.specs.Journaled.{JournaledPicture, counted_steps, is_own}
-use Rattle.rb_desk.specs.Limits.{Limits}
 use Rattle.rb_desk.specs.declared.step.Step.TheVariants.{Subscribe}
 use Rattle.rb_subscriber.specs.Register.{RegisterState}
 use Rattle.rb_broker.proofs.HoldLaws.{answered}
@@ -30,8 +29,8 @@ invariant_of-self g c =
     let made = ap (λ (r : RegisterState). r.made) c.subscribe-in-Ok.ensures.made in
     let length_is = ap (λ (d : JournaledPicture). length d.picture.subscriptions) step in
     record {
-      fits = ap (λ (d : JournaledPicture). d.picture.limits.capacity) step
-          ∙ ap (λ (l : Limits). l.capacity) others.0 ∙ old.fits;
+      limits = ap (λ (d : JournaledPicture). d.picture.limits) step ∙ others.0 ∙ old.limits;
+      fits = old.fits;
       fills = old.fills;
       closes = (
         old.closes.0 ∙ sym others.1 ∙ sym (ap (λ (d : JournaledPicture). d.picture.closing) step),

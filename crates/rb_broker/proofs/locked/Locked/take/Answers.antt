@@ -9,7 +9,7 @@ pub invariant_of-self : goal.invariant_of-self
 invariant_of-self g c =
     let old = c.args.self.now in
     own_step_holds old.desk _ _ c.steps_are_counted.ensures.own (c.only_subscribe_and_close.ensures.take _ _ _ _ _)
-    c.in-Ok.ensures.1 c.count.ensures.total old.fits old.fills old.closes old.all old.total old.made
+    c.in-Ok.ensures.1 c.count.ensures.total old.limits old.fits old.fills old.closes old.all old.total old.made
 
 -- the delivery is of its subscription
 pub returns-in-Ok-clause-of : goal.returns-in-Ok-clause-of
