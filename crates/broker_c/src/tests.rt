@@ -52,7 +52,7 @@ fn delivers(rt: &impl Abort, alloc: Global, broker: &mut Handle) {
         broker_subscribe(alloc, broker, 0, &mut number, &mut link),
         0
     );
-    assert_eq!(rt; broker_take(alloc, broker, 0, 5, &mut taken), 0);
+    assert_eq!(rt; broker_take(alloc, broker, 0, 0, &mut taken), 0);
     assert_eq!(rt; broker_accept(alloc, broker, 1, &mut cursor), 0);
     assert_eq!(rt; broker_ack(alloc, broker, 1, &mut floor), 0);
     assert_eq!(rt; (number, link, cursor, floor), (0, 1, 1, 1));
