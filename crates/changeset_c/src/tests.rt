@@ -139,3 +139,26 @@ fn a_text_is_inverted(rt: HostRuntime) -> Result<(), Fail> {
     assert_eq!(&rt; changeset_invert(alloc, &UPDATED[..12], &mut buffer), -1);
     begins(&rt, alloc, &buffer, &BACK)
 }
+
+// the front of an INSERT of (1, BLOB) into a table of two columns, up to the length of the BLOB
+const LONG: [u8; 18] = [
+    0x54, 2, 1, 0, 0x74, 0, 0x12, 0, 1, 0, 0, 0, 0, 0, 0, 0, 1, 4,
+];
+
+// the most bytes of a text
+const MOST: usize = 16_777_216;
+
+// A text of the most bytes is taken whole, and one of a byte more isn't.
+#[test]
+fn the_longest_text_is_taken(rt: HostRuntime) -> Result<(), Fail> {
+    let alloc = rt.alloc();
+    let mut text = Vec::from_slice(alloc, &LONG)?;
+    // 16,777,194 as a varint
+    text.extend_from_slice(&[0x87, 0xff, 0xff, 0x6a])?;
+    text.resize(MOST, 0)?;
+    assert_eq!(rt; changeset_canonical(alloc, &text, &mut []), MOST as i64);
+    assert_eq!(rt; changeset_invert(alloc, &text, &mut []), MOST as i64);
+    text.push(0)?;
+    assert_eq!(rt; changeset_canonical(alloc, &text, &mut []), -1);
+    Ok(())
+}

@@ -4,3 +4,4 @@ pub mod Log
 pub mod PlaceLaws
 pub mod Copied
 pub mod SameLaws
+pub mod ChangedLaws

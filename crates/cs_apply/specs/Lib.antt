@@ -11,3 +11,4 @@ pub mod SameKey
 pub mod Held
 pub mod RowAfter
 pub mod Lending
+pub mod Changed

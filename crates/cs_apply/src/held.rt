@@ -5,11 +5,12 @@ ghost use Rattle.std.specs.Prelude.{◌≡◌, length, not, Some, None, IfOk, If
 ghost use Rattle.std.specs.{Option.{option_copied}, Arc.{arc_value}, Bool.{Decides}};
 ghost use Rattle.std.specs.FinMap as map;
 ghost use Rattle.std.specs.FinSet as set;
+ghost use Rattle.std.specs.{List.{IsDistinct}, Map.{keys_of}};
 ghost use Rattle.cs_model.specs.declared.row_key.RowKey.{RowKey as Key};
 ghost use Rattle.cs_apply.specs.{Columns.{HaveColumns}, Errors.{ReportsConflict}};
 ghost use Rattle.cs_apply.specs.Held.{FitsKey, CanHoldRow, KeyHasPlace, held_also, is_key_placed};
 ghost use Rattle.cs_apply.specs.{Held.{with_row}, Seen.{listed}, Single.{single}};
-ghost use Rattle.cs_apply.specs.State.{compatible};
+ghost use Rattle.cs_apply.specs.{Changed.{IsChanged}, SameKey.{same_key}, State.{compatible}};
 
 use crate::changes::{change_all, kept_table};
 use crate::conflict::ApplyError;
@@ -121,6 +122,19 @@ impl HeldTables {
         ensures { Decides result (self.now.state ≡ other.now.state) }
     {
         self.has_setup_of(other) && self.places.has_rows_of(&other.places)
+    }
+
+    /// Whether the others have the same schema and kept tables, and these rows with these changes
+    /// made.
+    pub(crate) fn is_changed_to(
+        &self,
+        changes: &[(RowKey, Option<Row>)],
+        other: &HeldTables,
+    ) -> bool
+        requires { IsDistinct same_key (keys_of changes.now) }
+        ensures { Decides result (IsChanged self.now.state changes.now other.now.state) }
+    {
+        self.has_setup_of(other) && self.places.are_changed_to(changes, &other.places)
     }
 
     // whether the schema and the kept tables are the same

@@ -4,6 +4,7 @@
 #![tactic(auto)]
 
 mod change_error;
+mod changed;
 mod changes;
 mod conflict;
 mod held;

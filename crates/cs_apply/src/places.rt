@@ -93,8 +93,8 @@ impl Places {
         self.are_in(others) && others.are_in(self)
     }
 
-    // whether this key has this row
-    fn has(&self, key: &RowKey, row: &Row) -> bool
+    /// Whether this key has this row.
+    pub(crate) fn has(&self, key: &RowKey, row: &Row) -> bool
         ensures { Decides result (map.get (rows_in self.now) key.now ≡ Some row.now) }
     {
         match self.find(key) {

@@ -4,9 +4,10 @@
 ghost use Rattle.std.specs.Prelude.{◌≡◌, length, IfOk, IfErr, OnOk, OnErr, Ok};
 ghost use Rattle.std.specs.{Option.{option_copied}, Arc.{arc_value}, Bool.{Decides}, Borrow.{sem}};
 ghost use Rattle.std.specs.FinMap as map;
+ghost use Rattle.std.specs.{List.{IsDistinct}, Map.{keys_of}};
 ghost use Rattle.cs_apply.specs.{Columns.{HaveColumns}, Seen.{listed}, Single.{single}};
 ghost use Rattle.cs_apply.specs.{State.{compatible}, Errors.{ReportsConflict}};
-ghost use Rattle.cs_apply.specs.Lending.{LendsPlaces};
+ghost use Rattle.cs_apply.specs.{Changed.{IsChanged}, Lending.{LendsPlaces}, SameKey.{same_key}};
 
 use crate::conflict::ApplyError;
 use crate::held::HeldTables;
@@ -83,6 +84,17 @@ impl Tables {
         ensures { Decides result (self.now ≡ other.now) }
     {
         self.held.is_same(&other.held)
+    }
+
+    /// Whether the others are these tables with changes of rows made: the same schema and kept
+    /// tables, a changed key with the row that its change gives it, or with none, and each other
+    /// key with what it has here. No two changes are of one key. Each row and each change is looked
+    /// at where it stands, a few times. Does not allocate.
+    pub fn is_changed_to(&self, changes: &[(RowKey, Option<Row>)], other: &Tables) -> bool
+        requires { IsDistinct same_key (keys_of changes.now) }
+        ensures { Decides result (IsChanged self.now changes.now other.now) }
+    {
+        self.held.is_changed_to(changes, &other.held)
     }
 
     /// Applies all changes of a changeset in order. Works as `sqlite3changeset_apply` with a

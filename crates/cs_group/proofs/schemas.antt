@@ -1,3 +1,4 @@
 -- Tables known by name, and sections that one schema admits.
 pub mod Knowing
 pub mod Admitting
+pub mod Agreeing

@@ -1,8 +1,9 @@
 //! Laws of groups: public functions that do nothing. Their contracts state what holds of all
 //! changesets and tables; a caller that needs one calls it.
 
-ghost use Rattle.std.specs.Prelude.{◌≡◌, ◌++◌, List, None, Ok, Err};
-ghost use Rattle.cs_model.specs.{declared.shape.Shape.{Shape}, Changeset.{IsChangeset}};
+ghost use Rattle.std.specs.Prelude.{◌≡◌, ◌++◌, [], List, None, Ok, Err};
+ghost use Rattle.cs_model.specs.declared.shape.Shape.{Shape};
+ghost use Rattle.cs_model.specs.Changeset.{AgreeOnShapes, IsChangeset};
 ghost use Rattle.cs_model.specs.{Schema.{IsSchema, refusal_of}, Section.{Section}};
 ghost use Rattle.cs_apply.specs.{declared.conflict.Conflict.{Conflict}, Single.{single}};
 ghost use Rattle.cs_apply.specs.{State.{TableState}, Columns.{HaveColumns}};
@@ -34,4 +35,16 @@ pub fn admitted_never_clash()
     ensures both { (tables : List Shape) (some more : List Section)
         → refusal_of tables some ≡ None → refusal_of tables more ≡ None
         → refusal_of tables (some ++ more) ≡ None }
+{}
+
+/// Sections of which those of one name have one shape can be combined: no two of them clash.
+pub fn agreeing_never_clash()
+    ensures { (sections : List Section) → AgreeOnShapes sections
+        → first_clash [] sections ≡ None }
+{}
+
+/// Of the sections that a schema admits, those of one name have one shape.
+pub fn admitted_agree()
+    ensures { (tables : List Shape) (sections : List Section) → IsSchema tables
+        → refusal_of tables sections ≡ None → AgreeOnShapes sections }
 {}

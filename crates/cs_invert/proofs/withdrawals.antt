@@ -3,3 +3,4 @@ pub mod OneBack
 pub mod KeyBack
 pub mod Withdrawing
 pub mod Admitting
+pub mod Agreeing

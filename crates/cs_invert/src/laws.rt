@@ -2,7 +2,8 @@
 //! changesets and tables; a caller that needs one calls it.
 
 ghost use Rattle.std.specs.Prelude.{◌≡◌, List, None, Ok};
-ghost use Rattle.cs_model.specs.{declared.shape.Shape.{Shape}, Changeset.{IsChangeset}};
+ghost use Rattle.cs_model.specs.declared.shape.Shape.{Shape};
+ghost use Rattle.cs_model.specs.Changeset.{AgreeOnShapes, IsChangeset};
 ghost use Rattle.cs_model.specs.{Schema.{refusal_of}, Section.{Section}};
 ghost use Rattle.cs_apply.specs.{Columns.{HaveColumns}, Single.{single}, State.{TableState}};
 ghost use Rattle.cs_invert.specs.Inverse.{AreApart, inverse, withdrawal_of};
@@ -39,4 +40,10 @@ pub fn withdrawing_undoes()
 pub fn withdrawals_are_admitted()
     ensures { (tables : List Shape) (sections : List Section) → refusal_of tables sections ≡ None
         → refusal_of tables (withdrawal_of sections) ≡ None }
+{}
+
+/// Where sections of one name have one shape, so have those of the withdrawal.
+pub fn withdrawals_agree()
+    ensures { (sections : List Section) → AgreeOnShapes sections
+        → AgreeOnShapes (withdrawal_of sections) }
 {}

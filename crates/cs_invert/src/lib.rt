@@ -11,4 +11,4 @@ mod withdraw;
 
 pub use inverse::invert;
 pub use text::write_inverse;
-pub use withdraw::withdrawal;
+pub use withdraw::{withdrawal, withdrawal_agreeing};

@@ -1,6 +1,6 @@
 -- The shapes, changes and changesets that are valid.
 use Rattle.std.specs.Prelude.{◌≡◌, ℕ, ◌<◌, ◌≤◌, true, List, [], ◌∷◌, length, map, nat_lt}
-use Rattle.std.specs.Prelude.{FitsSigned, Option, Some, None}
+use Rattle.std.specs.Prelude.{FitsSigned, Option, Some, None, slice_get}
 use Rattle.std.specs.List.{list_any, list_all, flat_map, AllByRecursion}
 use Rattle.std.specs.Int.{w64}
 use Rattle.cs_model.specs.declared.value.Value.{Value}
@@ -63,6 +63,12 @@ IsSection section = IsShape section.shape × AllByRecursion (IsChange section.sh
 -- a changeset is its sections, in order
 abbrev pub IsChangeset : List Section → Type 0
 IsChangeset sections = AllByRecursion IsSection sections
+
+-- sections of one name have one shape, as those of a table have
+abbrev pub AgreeOnShapes : List Section → Type 0
+AgreeOnShapes sections = (i j : ℕ) (one other : Section) → slice_get sections i ≡ Some one
+    → slice_get sections j ≡ Some other → one.shape.name ≡ other.shape.name
+    → one.shape ≡ other.shape
 
 -- the changes of all sections, in order
 abbrev pub all_changes : List Section → List Change

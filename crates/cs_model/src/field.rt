@@ -5,6 +5,7 @@ ghost use Rattle.std.specs.Option.{option_map};
 ghost use Rattle.std.specs.Prelude.{◌≡◌, ◌≤◌, ◌++◌, ◌∷◌, ℕ, List, Some, IfSome, OnOk, OnErr};
 ghost use Rattle.std.specs.Prelude.{length, take};
 ghost use Rattle.cs_model.specs.Bytes.{AddsBytes};
+ghost use Rattle.cs_model.specs.Changeset.{most_bytes, IsField};
 ghost use Rattle.cs_model.specs.FieldBytes.{field_bytes};
 ghost use Rattle.cs_model.specs.Packed.{packed, Fits, IsLength};
 ghost use Rattle.cs_model.specs.Seen.{field_seen, fields_seen};
@@ -15,6 +16,9 @@ ghost use Rattle.cs_model.specs.declared.value.Field.{Field};
 use crate::field_ref::FieldRef;
 use crate::varint::{varint_push, varint_read};
 use std::alloc::AllocError;
+
+// the maximum length of a TEXT or a BLOB
+const MOST_BYTES: u64 = 16_777_216;
 
 /// Appends a field to `out` in canonical form: its type byte, then an INTEGER's eight bytes, or the
 /// shortest length and the bytes. An `Err` does not change `out`.
@@ -89,11 +93,13 @@ fn has_length(bytes: &[u8])
 
 /// Reads the field that `bytes` begins with. Returns it and its length in bytes. Accepts encodings
 /// of a length that are longer than the shortest. Returns `None` if no field begins the bytes: they
-/// end inside one, or the first byte is no field's type. A REAL is no field.
+/// end inside one, the first byte is no field's type, or a TEXT or BLOB has more than 16,777,216
+/// bytes. A REAL is no field.
 pub fn field_read(bytes: &[u8]) -> Option<(FieldRef, usize)>
     ensures found { IfSome result (λ found. (found.1 ≤ length bytes.now)
         × SpellsField (take found.1 bytes.now) (field_seen found.0)) }
-    ensures only { (field : Field) (len : ℕ) → Fits field → len ≤ length bytes.now
+    ensures valid { IfSome result (λ found. IsField (field_seen found.0)) }
+    ensures only { (field : Field) (len : ℕ) → IsField field → len ≤ length bytes.now
         → SpellsField (take len bytes.now) field
         → option_map {U = Field × ℕ} (λ found. (field_seen found.0, found.1)) result
         ≡ Some (field, len) }
@@ -122,11 +128,15 @@ pub fn field_read(bytes: &[u8]) -> Option<(FieldRef, usize)>
 fn counted_read(bytes: &[u8]) -> Option<(&[u8], usize)>
     ensures found { IfSome result (λ found. (found.1 ≤ length bytes.now)
         × SpellsBytes (take found.1 bytes.now) found.0.now) }
-    ensures only { (text : List ℕ) (len : ℕ) → len ≤ length bytes.now
+    ensures within { IfSome result (λ found. length found.0.now ≤ most_bytes) }
+    ensures only { (text : List ℕ) (len : ℕ) → length text ≤ most_bytes → len ≤ length bytes.now
         → SpellsBytes (take len bytes.now) text
         → option_map {U = List ℕ × ℕ} (λ found. (found.0.now, found.1)) result ≡ Some (text, len) }
 {
     let (count, read) = varint_read(bytes)?;
+    if count > MOST_BYTES {
+        return None;
+    }
     let rest = &bytes[read..];
     if (rest.len() as u64) < count {
         return None;

@@ -1,5 +1,6 @@
 pub mod RowChanges
 pub mod Shards
+pub mod KeyedChanges
 pub mod Parts
 pub mod Splitting
 pub mod Workers

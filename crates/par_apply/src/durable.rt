@@ -1,6 +1,6 @@
 //! A durable store of rows and a cursor, and a plan that is committed to it and to tables.
 
-ghost use Rattle.std.specs.{Prelude.{◌≡◌, ℕ, OnOk, IfErr, IfOk, OnErr}, List.{IsDistinct}};
+ghost use Rattle.std.specs.{Prelude.{◌≡◌, ℕ, OnOk, OnErr}, List.{IsDistinct}};
 ghost use Rattle.std.specs.Map.{keys_of};
 ghost use Rattle.cs_apply.specs.{SameKey.{same_key}, State.{Rows}};
 ghost use Rattle.par_apply.specs.Durable.{IfRefused, IfNotAsked, changed_tables};
@@ -9,8 +9,7 @@ ghost use Rattle.par_apply.specs.{Planned.{RowsFit, planned_changes}, RowChanges
 use crate::planned::{RowChange, RowPlan};
 use crate::staged::stage;
 use cs_apply::Tables;
-use cs_model::CopyIn;
-use std::alloc::{AllocError, Global};
+use std::alloc::Global;
 
 /// A store that keeps the rows of tables and a cursor together over a crash.
 pub trait DurableRows {
@@ -88,20 +87,4 @@ pub fn commit_durably<S: DurableRows>(
         }
         Err(_) => Err(NotCommitted::Store(staged.undo(places))),
     }
-}
-
-/// A copy of tables with the changes of a plan made. The copy shares the schema. Returns
-/// `AllocError` if memory runs out.
-pub fn changed_copy(alloc: Global, tables: &Tables, plan: &RowPlan) -> Result<Tables, AllocError>
-    requires { RowsFit tables.now (planned_changes plan.now) }
-    ensures { IfOk result (λ copy. copy ≡ changed_tables tables.now (planned_changes plan.now)) }
-{
-    let mut copy = tables.copy_in(alloc)?;
-    let own = plan.copied(alloc)?;
-    let places = copy.places_mut();
-    let Ok(staged) = stage(alloc, places, own) else {
-        return Err(AllocError);
-    };
-    staged.commit(places);
-    Ok(copy)
 }

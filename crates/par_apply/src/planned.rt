@@ -1,9 +1,11 @@
 //! `RowPlan`: the changes of rows that a changeset makes, or its first conflict.
 
 ghost use Rattle.std.specs.Prelude.{◌≡◌, ◌<◌, ◌≤◌, ◌⊎◌, None, Some, IfOk, IfErr};
+ghost use Rattle.std.specs.{Bool.{Decides}, List.{IsDistinct}, Map.{keys_of}};
 ghost use Rattle.cs_apply.specs.declared.conflict.ApplyError.TheVariants.{Memory};
 ghost use Rattle.cs_apply.specs.Errors.{ReportsConflict};
-ghost use Rattle.cs_apply.specs.Single.{single};
+ghost use Rattle.cs_apply.specs.{SameKey.{same_key}, Single.{single}};
+ghost use Rattle.par_apply.specs.Durable.{changed_tables};
 ghost use Rattle.par_apply.specs.Planned.{IsPlanOf, planned_changes};
 ghost use Rattle.par_apply.specs.Workers.{first_error, first_error_from, changes_answered};
 
@@ -11,8 +13,8 @@ use crate::gate::Gate;
 use crate::worker::{ShardPlan, plan_shards};
 use cs_apply::laws::rows_keep_columns;
 use cs_apply::{ApplyError, Tables};
-use cs_model::{Changeset, CopyIn, Row, RowKey};
-use std::alloc::{AllocError, Global};
+use cs_model::{Changeset, Row, RowKey};
+use std::alloc::Global;
 use std::thread::Threads;
 
 /// A key, and the row that it gets, or none.
@@ -33,25 +35,14 @@ impl RowPlan {
         &self.changes
     }
 
-    /// Copies the plan into new memory. Returns `AllocError` if memory runs out.
-    pub(crate) fn copied(&self, alloc: Global) -> Result<RowPlan, AllocError>
-        ensures { IfOk result (λ copy. planned_changes copy ≡ planned_changes self.now) }
+    /// Whether the tables `after` are the tables `before` with these changes made. Compares row by
+    /// row, and does not allocate.
+    pub fn leads(&self, before: &Tables, after: &Tables) -> bool
+        requires { IsDistinct same_key (keys_of (planned_changes self.now)) }
+        ensures { Decides result
+            (after.now ≡ changed_tables before.now (planned_changes self.now)) }
     {
-        let mut changes = Vec::with_capacity(alloc, self.changes.len())?;
-        for (key, row) in &self.changes {
-            changes.push((key.copy_in(alloc)?, copied_row(alloc, row)?))?;
-        }
-        Ok(RowPlan { changes })
-    }
-}
-
-// A copy of a row, or none.
-fn copied_row(alloc: Global, row: &Option<Row>) -> Result<Option<Row>, AllocError>
-    ensures { IfOk result (λ copy. copy ≡ row.now) }
-{
-    match row {
-        Some(row) => Ok(Some(row.copy_in(alloc)?)),
-        None => Ok(None),
+        before.is_changed_to(self.changes(), after)
     }
 }
 

@@ -1,15 +1,11 @@
-//! The shard of a key, and which changes of a changeset are of which shard.
+//! The shard of a key, and of the key of a change.
 
-ghost use Rattle.std.specs.Prelude.{◌≡◌, ◌<◌, ◌≤◌, ◌+◌, ◌%◌, ◌^◌, ◌++◌, ◌∷◌, [], ℕ, IfOk, length};
-ghost use Rattle.std.specs.Prelude.{List, OnOk, if◌then◌else◌, map, slice_index_or, sum, vec_len};
-ghost use Rattle.cs_apply.specs.Single.{changes_of};
+ghost use Rattle.std.specs.Prelude.{◌≡◌, ◌<◌, ◌≤◌, ◌+◌, ◌%◌, ◌^◌, sum};
 ghost use Rattle.cs_model.specs.{Key.{key_of}, KeyBytes.{key_bytes, key_record}};
 ghost use Rattle.cs_model.specs.Seen.{change_seen};
-ghost use Rattle.par_apply.specs.Shards.{of_shard, section_positions, shard_number};
-ghost use Rattle.par_apply.specs.Shards.{taken_positions};
+ghost use Rattle.par_apply.specs.Shards.{of_shard, shard_number};
 
-use cs_model::{ChangeRef, Changeset, Op, RecordRef, RowKey, Schema, SectionRef, ShapeRef};
-use std::alloc::{AllocError, Global};
+use cs_model::{ChangeRef, Op, RecordRef, RowKey, ShapeRef};
 
 // A sum that gets so large is divided, so that none overflows and few bytes cost a division.
 const LARGE_SUM: usize = 1 << 32;
@@ -63,9 +59,9 @@ fn record_of<'a>(change: &'a ChangeRef) -> &'a RecordRef<'a>
     }
 }
 
-// A number with the same remainder as the sum of a table's index and of the key's bytes. These are
-// added where they stand, and what is behind the last key column isn't read.
-fn with_key(table: usize, flags: &[u8], from: &RecordRef, n: usize) -> usize
+/// A number with the same remainder as the sum of a table's index and of the key's bytes. These are
+/// added where they stand, and what is behind the last key column isn't read.
+pub(crate) fn with_key(table: usize, flags: &[u8], from: &RecordRef, n: usize) -> usize
     requires some { 0 < n }
     requires few { n ≤ 16 }
     ensures { result % n ≡ (table + sum (key_bytes flags.now from.now)) % n }
@@ -114,90 +110,4 @@ impl Shard {
     {
         shard_of_change(table, shape, change, self.n) == self.number
     }
-}
-
-/// The positions of each shard's changes, in rising order: a list for each of `n` shards. A change
-/// whose table is not in the schema, or has another shape there, is in no list. Returns
-/// `AllocError` if memory runs out.
-pub fn split(
-    alloc: Global,
-    changeset: &Changeset,
-    schema: &Schema,
-    n: usize,
-) -> Result<Vec<Vec<usize>>, AllocError>
-    requires some { 0 < n }
-    requires few { n ≤ 16 }
-    ensures len { IfOk result (λ lists. vec_len lists ≡ n) }
-    ensures each { IfOk result (λ lists. (i : ℕ) (d : List ℕ) → i < n
-        → slice_index_or (map (λ list. list.items) lists.items) i d
-        ≡ taken_positions schema.now (of_shard (shard_number n) i) (changes_of changeset.now) 0) }
-{
-    let mut lists = Vec::with_capacity(alloc, n)?;
-    for number in 0..n {
-        lists.push(positions(alloc, changeset, schema, Shard { number, n })?)?;
-    }
-    Ok(lists)
-}
-
-// The positions of one shard's changes.
-fn positions(
-    alloc: Global,
-    changeset: &Changeset,
-    schema: &Schema,
-    shard: Shard,
-) -> Result<Vec<usize>, AllocError>
-    requires some { 0 < shard.n }
-    requires few { shard.n ≤ 16 }
-    ensures { IfOk result (λ list. list.items ≡ taken_positions schema.now
-        (of_shard (shard_number shard.n) shard.number) (changes_of changeset.now) 0) }
-{
-    let mut list = Vec::new(alloc);
-    let mut start: usize = 0;
-    for section in changeset.iter() {
-        // no memory holds more changes than a `usize` counts
-        let Some(end) = start.checked_add(section.len()) else {
-            return Err(AllocError);
-        };
-        if let Some(table) = schema.table(&section.shape()) {
-            add_positions(&mut list, table, &section, start, shard)?;
-        }
-        start = end;
-    }
-    Ok(list)
-}
-
-// The positions of the shard's changes in one section of a table in the schema. The first change is
-// at position `start`.
-fn add_positions(
-    list: &mut Vec<usize>,
-    table: usize,
-    section: &SectionRef,
-    start: usize,
-    shard: Shard,
-) -> Result<(), AllocError>
-    requires counted { start + length section.now.changes < 2 ^ 64 }
-    requires some { 0 < shard.n }
-    requires few { shard.n ≤ 16 }
-    ensures { OnOk result (list.new.items ≡ list.old.items ++ section_positions table
-        section.now.shape (of_shard (shard_number shard.n) shard.number) section.now.changes
-        start) }
-{
-    let shape = section.shape();
-    let mut position = start;
-    for change in section.changes() {
-        note(list, position, shard.takes(table, &shape, &change))?;
-        position += 1;
-    }
-    Ok(())
-}
-
-// Appends a position, if it is taken.
-fn note(list: &mut Vec<usize>, position: usize, is_taken: bool) -> Result<(), AllocError>
-    ensures { OnOk result (list.new.items
-        ≡ list.old.items ++ (if is_taken then position ∷ [] else [])) }
-{
-    if is_taken {
-        list.push(position)?;
-    }
-    Ok(())
 }

@@ -17,7 +17,7 @@ use std::alloc::{AllocError, Global};
 use thiserror::Error;
 
 /// A plan whose new keys have places. `commit` or `undo` takes it.
-#[derive(Debug, Drop)]
+#[derive(Debug)]
 pub struct StagedPlan {
     pub(crate) changes: Vec<RowChange>,
     // the indices of the changes whose places staging made
@@ -46,7 +46,7 @@ impl StagedPlan {
           rows = overlaid tables.old.state.rows (changes_staged self);
         } }
     {
-        let StagedPlan { changes, .. } = self;
+        let StagedPlan { changes, made: _ } = self;
         write_all(tables, changes);
         tables.sweep();
     }

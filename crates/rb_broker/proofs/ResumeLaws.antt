@@ -3,7 +3,6 @@ use Rattle.std.proofs.Common.{ℕ, Result, Ok, Err, IfErr, IfOk}
 use Rattle.cs_apply.specs.State.{TableState}
 use Rattle.rb_desk.specs.Journaled.{JournaledPicture}
 use Rattle.rb_desk.specs.Limits.{Limits}
-use Rattle.rb_desk.specs.declared.refusal.DeskError.TheVariants.{Memory, Refused}
 use Rattle.rb_subscriber.specs.Lost.{FitsLost}
 use Rattle.rb_subscriber.specs.Subscription.{SubscriptionState}
 use Rattle.rb_broker.specs.Holding.{IsDeskOf}
@@ -16,8 +15,7 @@ use Rattle.rb_broker.specs.declared.refusal.ResumeError.TheVariants.{Desk, Other
 state_why : (lost : SubscriptionState) (tables : TableState) (cursor : ℕ) (why : ResumeError) (old new : JournaledPicture)
     → FitsLost lost tables cursor → RefusesReconnect why lost.sub cursor old new → IsStateWhy lost tables cursor why
 state_why lost tables cursor OtherState old new fits h = absurd h
-state_why lost tables cursor (Desk Memory) old new fits h = tt
-state_why lost tables cursor (Desk (Refused why)) old new fits h = fits
+state_why lost tables cursor (Desk error) old new fits h = fits
 
 pub lost_comes_back : {L : Type 0} (result : Result SubscriptionState (RefusedResume L)) (lost : SubscriptionState)
     (tables : TableState) (cursor : ℕ) (old new : JournaledPicture) → FitsLost lost tables cursor
@@ -30,8 +28,7 @@ lost_comes_back (Err refused) lost tables cursor old new fits h =
 why_returns : (limits : Limits) (why : ResumeError) (sub cursor : ℕ) (old new : JournaledPicture)
     → IsDeskOf limits old → RefusesReconnect why sub cursor old new → ReconnectReturns limits sub cursor (Err why)
 why_returns limits OtherState sub cursor old new held h = tt
-why_returns limits (Desk Memory) sub cursor old new held h = tt
-why_returns limits (Desk (Refused why)) sub cursor old new held h = (old, new, held, h)
+why_returns limits (Desk error) sub cursor old new held h = (old, new, held, h)
 
 pub link_returns : {L : Type 0} (limits : Limits) (result : Result SubscriptionState (RefusedResume L))
     (lost : SubscriptionState) (tables : TableState) (cursor : ℕ) (old new : JournaledPicture) → IsDeskOf limits old

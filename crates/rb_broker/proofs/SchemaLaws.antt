@@ -8,7 +8,6 @@ use Rattle.cs_model.specs.declared.shape.Shape.{Shape}
 use Rattle.cs_apply.specs.State.{TableState}
 use Rattle.rb_desk.specs.Journaled.{JournaledPicture}
 use Rattle.rb_desk.specs.Limits.{Limits}
-use Rattle.rb_desk.specs.declared.refusal.DeskError.TheVariants.{Memory, Refused}
 use Rattle.rb_subscriber.specs.Subscription.{SubscriptionState}
 use Rattle.rb_broker.specs.Holding.{IsDeskOf, IsSchemaWhy, MakesSubscription, RefusesAsDesk, RefusesTables}
 use Rattle.rb_broker.specs.Holding.{RefusesAfterDesk, SubscribesAfterDesk}
@@ -62,8 +61,7 @@ tables_come_back (Err refused) base own start old new same h =
 why_after : (limits : Limits) (why : SubscribeError) (start : ℕ) (old new : JournaledPicture) → IsDeskOf limits old
     → RefusesAsDesk why start old new → RefusesAfterDesk limits why start
 why_after limits OtherSchema start old new held h = tt
-why_after limits (Desk Memory) start old new held h = tt
-why_after limits (Desk (Refused why)) start old new held h = (old, new, held, h)
+why_after limits (Desk error) start old new held h = (old, new, held, h)
 
 pub subscribes_after : (limits : Limits) (result : Result SubscriptionState RefusedSubscription) (base : TableState)
     (start : ℕ) (old new : JournaledPicture) → IsDeskOf limits old → MakesSubscription result base start old new

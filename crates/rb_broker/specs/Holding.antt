@@ -8,7 +8,7 @@ use Rattle.rb_desk.specs.Limits.{Limits}
 use Rattle.rb_desk.specs.Picture.{Picture}
 use Rattle.rb_desk.specs.declared.delivery.Delivery.{Delivery}
 use Rattle.rb_desk.specs.declared.refusal.DeskError.{DeskError}
-use Rattle.rb_desk.specs.declared.refusal.DeskError.TheVariants.{Memory, Refused}
+use Rattle.rb_desk.specs.declared.refusal.DeskError.TheVariants.{Refused}
 use Rattle.rb_desk.specs.declared.refusal.DeskRefusal.{DeskRefusal}
 use Rattle.rb_desk.specs.declared.refusal.DeskRefusal.TheVariants as desk
 use Rattle.rb_desk.specs.declared.step.Step.{Step}
@@ -62,13 +62,11 @@ MakesSubscription (Ok s) base start old new = (s ≡ new_subscription s.sub star
 MakesSubscription (Err refused) base start old new = (refused.tables ≡ base)
     × RefusesAsDesk refused.why start old new
 
--- The number and the link of a new subscription, or the refusal, are those that the desk returns.
--- Memory may run out before the desk is asked.
+-- The number and the link of a new subscription, or the error, are those that the desk returns.
 abbrev pub RefusesAfterDesk : Limits → SubscribeError → ℕ → Type 0
 RefusesAfterDesk limits subscribing.OtherSchema start = Unit {0}
-RefusesAfterDesk limits (subscribing.Desk Memory) start = Unit {0}
-RefusesAfterDesk limits (subscribing.Desk (Refused why)) start =
-    DeskReturns {A = ℕ × ℕ} limits (Err (Refused why)) (λ p. subscribe p start) (Subscribe start)
+RefusesAfterDesk limits (subscribing.Desk error) start =
+    DeskReturns {A = ℕ × ℕ} limits (Err error) (λ p. subscribe p start) (Subscribe start)
 
 abbrev pub SubscribesAfterDesk : Limits → Result SubscriptionState RefusedSubscription → ℕ → Type 0
 SubscribesAfterDesk limits (Ok s) start =

@@ -9,7 +9,7 @@ use Rattle.cs_parse.specs.Progress.{Progress, nothing}
 use Rattle.rb_broker.specs.declared.refusal.AddRefusal.{AddRefusal}
 use Rattle.rb_broker.specs.declared.refusal.AddRefusal.TheVariants.{TooMany, Memory}
 use Rattle.rb_sequence.specs.Cells.{Cells, CellToken, IsTokenOf}
-use Rattle.rb_sequence.specs.declared.item.Item.{Item}
+use Rattle.rb_sequence.specs.Item.{Item}
 
 -- A publisher: its number, the tables of its broker, its stream, what it sent, in order, and the
 -- numbers of the entries that it withdrew, rising.

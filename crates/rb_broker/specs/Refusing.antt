@@ -39,8 +39,8 @@ IsOpenTo p withdrawn number entry =
     (entry.item.publisher ≡ p) × (has_number number withdrawn ≡ false)
 
 -- Why publisher p, who withdrew these entries, can't withdraw the entry of this number. It is
--- another publisher's; or p's, and withdrawn already; or p's, and not withdrawn: `Schema` names the
--- first section that clashes in its changeset, and memory runs out only if no section clashes.
+-- another publisher's; or p's, and withdrawn already; or p's, and not withdrawn, and memory runs
+-- out: no two sections of its changeset clash.
 abbrev pub RefusesWithdrawal : Cells → ℕ → List ℕ → ℕ → WithdrawRefusal → Type 0
 RefusesWithdrawal cells p withdrawn number withdraw.NotPlaced = Unit {0}
 RefusesWithdrawal cells p withdrawn number withdraw.NotYours =
@@ -48,9 +48,6 @@ RefusesWithdrawal cells p withdrawn number withdraw.NotYours =
 RefusesWithdrawal cells p withdrawn number withdraw.AlreadyWithdrawn =
     CellShows cells number (λ entry. entry.item.publisher ≡ p)
     × (has_number number withdrawn ≡ true)
-RefusesWithdrawal cells p withdrawn number (withdraw.Schema section) =
-    CellShows cells number (λ entry. IsOpenTo p withdrawn number entry
-    × (first_clash [] entry.item.body ≡ Some section))
 RefusesWithdrawal cells p withdrawn number withdraw.Memory =
     CellShows cells number (λ entry. IsOpenTo p withdrawn number entry
     × (first_clash [] entry.item.body ≡ None))

@@ -4,7 +4,6 @@ use Rattle.cs_apply.specs.State.{TableState}
 use Rattle.rb_desk.specs.Calls.{reconnect}
 use Rattle.rb_desk.specs.Journaled.{JournalAnswers, JournaledPicture}
 use Rattle.rb_desk.specs.Limits.{Limits}
-use Rattle.rb_desk.specs.declared.refusal.DeskError.TheVariants.{Memory, Refused}
 use Rattle.rb_desk.specs.declared.step.Step.TheVariants.{Reconnect}
 use Rattle.rb_subscriber.specs.Lost.{FitsLost, gone_on}
 use Rattle.rb_subscriber.specs.Subscription.{SubscriptionState}
@@ -13,12 +12,10 @@ use Rattle.rb_broker.specs.declared.refusal.RefusedResume.{RefusedResume}
 use Rattle.rb_broker.specs.declared.refusal.ResumeError.{ResumeError}
 use Rattle.rb_broker.specs.declared.refusal.ResumeError.TheVariants as resuming
 
--- Another state is refused before the desk is asked, and only it. Memory may run out before the
--- state is known.
+-- Another state is refused first of all, and only it.
 abbrev pub IsStateWhy : SubscriptionState → TableState → ℕ → ResumeError → Type 0
 IsStateWhy lost tables cursor resuming.OtherState = FitsLost lost tables cursor → ⊥
-IsStateWhy lost tables cursor (resuming.Desk Memory) = Unit {0}
-IsStateWhy lost tables cursor (resuming.Desk (Refused why)) = FitsLost lost tables cursor
+IsStateWhy lost tables cursor (resuming.Desk error) = FitsLost lost tables cursor
 
 -- what was to be resumed comes back, with the reason
 abbrev pub ResumesNothing : {L : Type 0} → SubscriptionState → TableState → ℕ → RefusedResume L
@@ -27,15 +24,13 @@ ResumesNothing lost tables cursor refused = (refused.lost ≡ lost) × (refused.
     × IsStateWhy lost tables cursor refused.why
 
 -- The desk is asked for a reconnection of this subscription at this cursor. The new link, or the
--- refusal, is the one that it returns after the steps of some journal.
+-- error, is the one that it returns after the steps of some journal.
 abbrev pub ReconnectReturns : Limits → ℕ → ℕ → Result ℕ ResumeError → Type 0
 ReconnectReturns limits sub cursor (Ok link) =
     DeskReturns limits (Ok link) (λ p. reconnect p sub cursor) (Reconnect sub cursor)
 ReconnectReturns limits sub cursor (Err resuming.OtherState) = Unit {0}
-ReconnectReturns limits sub cursor (Err (resuming.Desk Memory)) = Unit {0}
-ReconnectReturns limits sub cursor (Err (resuming.Desk (Refused why))) =
-    DeskReturns {A = ℕ} limits (Err (Refused why)) (λ p. reconnect p sub cursor)
-    (Reconnect sub cursor)
+ReconnectReturns limits sub cursor (Err (resuming.Desk error)) =
+    DeskReturns {A = ℕ} limits (Err error) (λ p. reconnect p sub cursor) (Reconnect sub cursor)
 
 -- ---- one hold of the lock
 

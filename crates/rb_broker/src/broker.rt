@@ -15,7 +15,7 @@ use crate::refusal::{PlaceRefusal, RefusedItem};
 use cs_model::Schema;
 use rb_desk::Config;
 use rb_intake::{Intake, SequencerPass};
-use rb_sequence::{Entry, Item, Preparer, ReadyError, Sequence, Told, ToldLast};
+use rb_sequence::{Entry, Item, Preparer, Sequence, Told, ToldLast};
 use rb_subscriber::{Auditor, Register};
 use std::alloc::Global;
 use std::marker::PhantomData;
@@ -146,7 +146,7 @@ impl<L: Hall> Broker<L> {
             let why = PlaceRefusal::Memory;
             return Err(RefusedItem { why, item });
         };
-        let entry = Entry::new(number, item, form);
+        let entry = Entry::new(alloc, number, item, form);
         if number == 0 || number > self.sequence.capacity() {
             let locked = self.locked.lock(rt);
             return Err(refused(locked.refuses(), entry));
@@ -156,8 +156,7 @@ impl<L: Hall> Broker<L> {
                 let mut locked = self.locked.lock(rt);
                 locked.place(ready)
             }
-            Err(ReadyError::Memory(entry)) => Err(refused(PlaceRefusal::Memory, entry)),
-            Err(ReadyError::Occupied(entry)) => Err(refused(PlaceRefusal::Occupied, entry)),
+            Err(failed) => Err(refused(PlaceRefusal::Memory, failed.value)),
         }
     }
 

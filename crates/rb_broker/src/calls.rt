@@ -17,7 +17,6 @@ use crate::broker::Broker;
 use crate::hall::Hall;
 use crate::refusal::{RefusedResume, RefusedSubscription, ResumeError, SubscribeError, TakeError};
 use cs_apply::Tables;
-use cs_model::CopyIn;
 use rb_desk::{Delivery, DeskError};
 use rb_subscriber::{Auditor, Lost, Missing, Subscription};
 use std::alloc::Global;
@@ -28,8 +27,8 @@ use std::sync::Wait;
 impl<L: Hall> Broker<L> {
     /// Makes a subscription to the numbers after `start`, with these tables.
     ///
-    /// Refuses `OtherSchema` first of all, then `StartAhead` and `TooMany` as the desk does. Memory
-    /// may run out before the desk is asked. The tables come back then.
+    /// Refuses `OtherSchema` first of all, then `StartAhead` and `TooMany` as the desk does. The
+    /// tables come back then.
     pub fn subscribe<R: Wait>(
         &self,
         rt: &R,
@@ -46,12 +45,8 @@ impl<L: Hall> Broker<L> {
             let why = SubscribeError::OtherSchema;
             return Err(RefusedSubscription { why, tables });
         }
-        let Ok(base) = tables.copy_in(alloc) else {
-            let why = SubscribeError::Desk(DeskError::Memory);
-            return Err(RefusedSubscription { why, tables });
-        };
         let mut locked = self.locked.lock(rt);
-        locked.subscribe(alloc, tables, base, start)
+        locked.subscribe(alloc, tables, start)
     }
 
     // whether these tables are of the broker's schema
@@ -199,8 +194,7 @@ impl<L: Hall> Broker<L> {
     ///
     /// Refuses `OtherState` first of all: the tables and the cursor aren't those from before the
     /// delivery that was being accepted, nor those after it. Then it refuses as the desk's
-    /// `reconnect` does. Memory may run out before the state is known. Each refusal hands back the
-    /// subscription that fell and the tables.
+    /// `reconnect` does. Each refusal hands back the subscription that fell and the tables.
     pub fn resume<R: Wait>(
         &self,
         rt: &R,
@@ -216,11 +210,7 @@ impl<L: Hall> Broker<L> {
         ensures desk { IfErr result (λ refused.
             ReconnectReturns L.limits lost.sub cursor (Err refused.why)) }
     {
-        let Ok(fits) = lost.fits(alloc, &tables, cursor) else {
-            let why = ResumeError::Desk(DeskError::Memory);
-            return Err(RefusedResume { why, lost, tables });
-        };
-        if !fits {
+        if !lost.fits(&tables, cursor) {
             let why = ResumeError::OtherState;
             return Err(RefusedResume { why, lost, tables });
         }

@@ -25,16 +25,13 @@ use rb_subscriber::{Auditor, Lost, Missing, Subscription};
 use std::alloc::Global;
 
 impl<L: Hall> Locked<L> {
-    /// The desk's `subscribe`, and the subscription that it numbers. `base` is a copy of its
-    /// tables.
+    /// The desk's `subscribe`, and the subscription that it numbers.
     pub(crate) fn subscribe(
         &mut self,
         alloc: Global,
         tables: Tables,
-        base: Tables,
         start: u64,
     ) -> Result<Subscription<L>, RefusedSubscription>
-        requires { base ≡ tables }
         ensures made { MakesSubscription result tables start self.old.desk self.new.desk }
         ensures held { IsDeskOf L.limits self.old.desk }
     {
@@ -42,10 +39,7 @@ impl<L: Hall> Locked<L> {
         only_subscribe_and_close();
         let _steps = self.desk.steps();
         match self.desk.subscribe(alloc, start) {
-            Ok((sub, link)) => Ok(
-                self.register
-                    .subscribe(alloc, sub, link, start, tables, base),
-            ),
+            Ok((sub, link)) => Ok(self.register.subscribe(alloc, sub, link, start, tables)),
             Err(error) => Err(RefusedSubscription {
                 why: SubscribeError::Desk(error),
                 tables,

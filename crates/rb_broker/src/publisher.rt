@@ -2,7 +2,7 @@
 
 ghost use Rattle.std.specs.Prelude.{◌≡◌, ◌<◌, ◌++◌, ◌∷◌, [], suc, length, false, None, Some, Err};
 ghost use Rattle.std.specs.Prelude.{IsOk, IfOk, IfErr, OnOk, OnErr};
-ghost use Rattle.cs_model.specs.Changeset.{most_bytes};
+ghost use Rattle.cs_model.specs.Changeset.{AgreeOnShapes, most_bytes};
 ghost use Rattle.cs_model.specs.declared.origin.Origin.TheVariants.{Withdraws};
 ghost use Rattle.cs_parse.specs.End.{admitted_answer, left_by};
 ghost use Rattle.cs_parse.specs.Progress.{FeedAnswers, advanced, answer_at_end, nothing};
@@ -16,9 +16,9 @@ use crate::broker::Broker;
 use crate::hall::Hall;
 use crate::refusal::{SendRefusal, WithdrawRefusal};
 use crate::staged::StagedSet;
-use cs_group::GroupError;
-use cs_invert::withdrawal;
-use cs_model::{Origin, Schema};
+use cs_group::laws::{admitted_agree, agreeing_never_clash};
+use cs_invert::withdrawal_agreeing;
+use cs_model::{Changeset, Origin, Schema};
 use cs_parse::{EndError, ParseError, PieceParser};
 use rb_intake::PublisherPass;
 use rb_sequence::{Item, Sequence};
@@ -125,7 +125,7 @@ impl<L: Hall> Publisher<L> {
               self.old.stream;
         } }
     {
-        let body = self.stream.end(alloc, &self.schema)?;
+        let body = ended(alloc, &mut self.stream, &self.schema)?;
         Ok(StagedSet {
             publisher: self.pass.publisher(),
             origin: Origin::Sent,
@@ -167,18 +167,13 @@ impl<L: Hall> Publisher<L> {
             withdraws,
             of,
         } = set;
-        let item = Item {
-            publisher,
-            own,
-            origin,
-            body,
-        };
+        let item = Item::new(publisher, own, origin, body);
         match broker.intake.push(rt, &mut self.pass, item) {
             Ok(()) => Ok(own),
             Err(item) => Err(SendRefusal::Full(StagedSet {
                 publisher,
                 origin,
-                body: item.body,
+                body: item.into_body(),
                 withdraws,
                 of,
             })),
@@ -187,9 +182,8 @@ impl<L: Hall> Publisher<L> {
 
     /// Stages the withdrawal of entry `number`, which this publisher sent.
     ///
-    /// Refuses, in this order, `NotPlaced` if the entry's cell shows nothing, `NotYours`,
-    /// `AlreadyWithdrawn` if an earlier call withdrew the entry, and `Schema` if two of its
-    /// sections clash.
+    /// Refuses, in this order, `NotPlaced` if the entry's cell shows nothing, `NotYours`, and
+    /// `AlreadyWithdrawn` if an earlier call withdrew the entry.
     pub fn withdraw(
         &mut self,
         alloc: Global,
@@ -206,6 +200,7 @@ impl<L: Hall> Publisher<L> {
         ensures why { IfErr result (RefusesWithdrawal L.cells self.old.number self.old.withdrawn
             number) }
     {
+        agreeing_never_clash();
         let told = sequence.tell(number).ok_or(WithdrawRefusal::NotPlaced)?;
         let entry = sequence.get_told(&told);
         if entry.publisher() != self.pass.publisher() {
@@ -214,10 +209,8 @@ impl<L: Hall> Publisher<L> {
         if self.withdrawn.contains(&number) {
             return Err(WithdrawRefusal::AlreadyWithdrawn);
         }
-        let body = match withdrawal(alloc, entry.body()) {
-            Ok(body) => body,
-            Err(GroupError::Schema { section }) => return Err(WithdrawRefusal::Schema { section }),
-            Err(GroupError::Memory) => return Err(WithdrawRefusal::Memory),
+        let Ok(body) = withdrawal_agreeing(alloc, entry.body()) else {
+            return Err(WithdrawRefusal::Memory);
         };
         if self.withdrawn.insert(number).is_err() {
             return Err(WithdrawRefusal::Memory);
@@ -230,4 +223,17 @@ impl<L: Hall> Publisher<L> {
             of: PhantomData,
         })
     }
+}
+
+// The changeset that a stream ends with, if the schema admits it. Sections of one name in it have
+// one shape then.
+fn ended(alloc: Global, stream: &mut PieceParser, schema: &Schema) -> Result<Changeset, EndError>
+    ensures answer { result ≡ admitted_answer schema.now (answer_at_end stream.old) }
+    ensures left { stream.new ≡ left_by result stream.old }
+    ensures agrees { IfOk result (λ body. AgreeOnShapes body) }
+{
+    admitted_agree();
+    // for what its clause says: the tables are a schema
+    let _tables = schema.tables();
+    stream.end(alloc, schema)
 }

@@ -69,11 +69,6 @@ pub enum WithdrawRefusal {
     /// The publisher withdrew the entry already.
     #[error("the entry is withdrawn already")]
     AlreadyWithdrawn,
-    /// This section of the entry's changeset has another shape than an earlier section of its
-    /// table, so the changeset has no withdrawal. A changeset that one schema admits has no such
-    /// section. The number is the section's index, from 0.
-    #[error("section {section} has another shape than an earlier section of its table")]
-    Schema { section: usize },
     /// Memory ran out.
     #[error("out of memory")]
     Memory,

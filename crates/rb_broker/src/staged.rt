@@ -2,6 +2,7 @@
 
 ghost use Rattle.std.specs.Prelude.{◌≡◌};
 ghost use Rattle.std.specs.Option.{option_copied};
+ghost use Rattle.cs_model.specs.Changeset.{AgreeOnShapes};
 ghost use Rattle.rb_broker.specs.Publishers.{IsStaged};
 
 use crate::hall::Hall;
@@ -22,6 +23,7 @@ pub struct StagedSet<L: Hall> {
 }
 
 impl<L: Hall> Model for StagedSet<L> {
+    ghost use Rattle.cs_model.specs.Changeset.{AgreeOnShapes};
     ghost use Rattle.rb_broker.specs.Publishers.{StagedView, WithdrawsShown};
 
     ghost Value = { StagedView };
@@ -33,7 +35,8 @@ impl<L: Hall> Model for StagedSet<L> {
       withdraws = s.withdraws;
     } };
 
-    ghost invariant = { λ s. WithdrawsShown L.cells s.origin s.withdraws s.publisher s.body };
+    ghost invariant = { λ s. WithdrawsShown L.cells s.origin s.withdraws s.publisher s.body
+        × AgreeOnShapes s.body };
 }
 
 impl<L: Hall> StagedSet<L> {
@@ -51,9 +54,10 @@ impl<L: Hall> StagedSet<L> {
         self.origin
     }
 
-    /// The changeset.
+    /// The changeset. Sections of one name in it have one shape.
     pub fn body(&self) -> &Changeset
-        ensures { result.now ≡ self.now.body }
+        ensures body { result.now ≡ self.now.body }
+        ensures agrees { AgreeOnShapes self.now.body }
     {
         &self.body
     }

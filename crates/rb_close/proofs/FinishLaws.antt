@@ -1,11 +1,11 @@
 -- From the joined passes to the publishers.
 use Rattle.std.proofs.Common.{◌≡◌, ℕ, zero, suc, ◌+◌, ◌<◌, ◌≤◌, ◌==◌, List, [], ◌∷◌, ◌++◌, length, drop}
-use Rattle.std.proofs.Common.{ap, ◌∙◌, inl, inr, sym, refl, subst, arith, ⊎_elim, append_assoc, slice_index_or, Option}
+use Rattle.std.proofs.Common.{ap, ◌∙◌, inl, inr, sym, refl, subst, arith, ⊎_elim, append_assoc, slice_index_or, Option, Some}
 use Rattle.std.specs.List.{AllByRecursion}
 use Rattle.std.proofs.lemmas.List.{append-nil, length-append, length-map}
 use Rattle.std.proofs.lemmas.List.Elements.{filter-append}
 use Rattle.std.proofs.lemmas.Bool.Decides.{eqb_tells}
-use Rattle.rb_sequence.specs.declared.item.Item.{Item}
+use Rattle.rb_sequence.specs.Item.{Item}
 use Rattle.rb_sequence.specs.Items.{own_of}
 use Rattle.rb_intake.specs.Joined.{HasEndedAs}
 use Rattle.rb_intake.specs.Passes.{SequencerKnows, LastKnows, total_sent, Drains, AreOfJoined}
@@ -13,7 +13,8 @@ use Rattle.atomic_table.specs.Seated.{TableId}
 use Rattle.rb_broker.specs.Publishers.{PublisherView}
 use Rattle.rb_sequence.specs.Cells.{CellToken, Cells, IsLastToken, LastToken}
 use Rattle.rb_sequencer.specs.Turns.{SequencerState, items_placed, in_hand}
-use Rattle.rb_close.specs.Finishing.{AreAllPresent, AreAllThere, AreTheirs, Finishes, IsPresent, JoinsPasses, all_sent, sendings_of}
+use Rattle.rb_close.specs.Finishing.{AreAllPresent, AreAllThere, AreTheirs, Finishes, IsPresent, JoinsPasses, PullsInOrder, all_sent, sendings_of}
+use Rattle.rb_close.specs.Finishing.{closing_shown}
 
 pub all_sent_is : (ps : List PublisherView) → total_sent (sendings_of ps) ≡ all_sent ps
 all_sent_is [] = refl
@@ -93,6 +94,14 @@ taken_apart ps s queue pass mid made last hand kept begun flows held joins ends 
   held = is ∙ ap (λ (h : Option Item). in_hand h) held;
 }
 
+-- the last pass is of the queue that the sequencer's pass was of
+pub last_queue : (ps : List PublisherView) (s : SequencerState) (queue : TableId) (pass mid : SequencerKnows) (made : ℕ)
+    (last : LastKnows) → pass ≡ record { queue = queue; pulled = s.pulled; ended = [] } → JoinsPasses ps pass mid
+    → last ≡ record { queue = mid.queue; pulled = mid.pulled; ended = mid.ended; made = made } → last.queue ≡ queue
+last_queue ps s queue pass mid made last begun joins ends =
+    ap (λ (l : LastKnows). l.queue) ends
+    ∙ (ap (λ (k : SequencerKnows). k.queue) joins ∙ ap (λ (k : SequencerKnows). k.queue) begun)
+
 -- the room is enough for what waits
 pub room_is : (ps : List PublisherView) (s : SequencerState) (last : LastKnows) (kept : List Item) (len cap : ℕ)
     → IsTakenApart ps s last kept → length kept ≡ len → all_sent ps ≤ length s.placed + cap
@@ -106,18 +115,18 @@ room_is ps s last kept len cap is counted room =
 
 -- what was drained after the hand, said of the publishers
 pub broker_finishes : (cells : Cells) (ps : List PublisherView) (s : SequencerState) (last : LastKnows)
-    (kept new : List Item) (placed : ℕ) (closing : LastToken) → IsTakenApart ps s last kept → Drains last kept new
-    → placed ≡ length s.placed → IsLastToken cells closing × (closing.last ≡ length s.placed)
+    (kept new : List Item) (end : LastKnows) (placed : ℕ) (closing : LastToken) → IsTakenApart ps s last kept
+    → Drains last kept new end → placed ≡ length s.placed → IsLastToken cells closing × (closing.last ≡ length s.placed)
     → Finishes cells ps s placed new closing
-broker_finishes cells ps s last kept new placed closing is drains many closed = record {
+broker_finishes cells ps s last kept new end placed closing is drains many closed = record {
   hand = (more, drains.1 ∙ ap (λ xs. xs ++ more) is.held);
   sent = there ps (last.pulled ++ more) (items_placed s.placed) new all
       (subst (λ es. AllByRecursion (λ (e : ℕ × List Item). e.1 ≡ own_of e.0 (last.pulled ++ more)) es) is.joined
-      drains.2);
+      drains.3);
   theirs = subst (λ xs. AreTheirs ps xs) all
-      (theirs ps (last.pulled ++ more) (subst (λ es. AreOfJoined es (last.pulled ++ more)) is.joined drains.3));
+      (theirs ps (last.pulled ++ more) (subst (λ es. AreOfJoined es (last.pulled ++ more)) is.joined drains.4));
   counted =
-      let count = drains.4 in
+      let count = drains.5 in
       let sent = ap total_sent is.joined ∙ all_sent_is ps in
       let parts = ap length all ∙ length-append (items_placed s.placed) new in
       let tokens = length-map s.placed (λ (t : CellToken). t.entry.item) in
@@ -134,6 +143,23 @@ broker_finishes cells ps s last kept new placed closing is drains many closed = 
     all = ap (λ xs. xs ++ more) is.flows ∙ append_assoc (items_placed s.placed) (in_hand s.hand) more
         ∙ ap (λ xs. items_placed s.placed ++ (xs ++ more)) (sym is.held)
         ∙ ap (λ xs. items_placed s.placed ++ xs) (sym drains.1)
+
+-- what was placed, and then what is left, is what the last pass pulled
+pub order_of_pulls : (ps : List PublisherView) (s : SequencerState) (queue : TableId) (last : LastKnows)
+    (kept new : List Item) (end : LastKnows) → IsTakenApart ps s last kept → last.queue ≡ queue
+    → Drains last kept new end → PullsInOrder queue s.placed new end
+order_of_pulls ps s queue last kept new end is of drains = (
+  ap (λ (l : LastKnows). l.queue) drains.2 ∙ of,
+  ap (λ (l : LastKnows). l.pulled) drains.2 ∙ ap (λ xs. xs ++ drains.0) is.flows
+      ∙ append_assoc (items_placed s.placed) (in_hand s.hand) drains.0
+      ∙ ap (λ xs. items_placed s.placed ++ (xs ++ drains.0)) (sym is.held)
+      ∙ ap (λ xs. items_placed s.placed ++ xs) (sym drains.1),
+)
+
+-- what the closing cell shows, by its token
+pub shown_is : (closing : Option LastToken) (told : LastToken) (placed : ℕ) → closing ≡ Some told → told.last ≡ placed
+    → closing_shown closing ≡ Some placed
+shown_is closing told placed is last = ap closing_shown is ∙ ap (λ n. Some n) last
 
 -- ---- who is given
 

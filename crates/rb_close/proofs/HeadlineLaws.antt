@@ -9,7 +9,7 @@ use Rattle.std.proofs.lemmas.Simd.{map-map}
 use Rattle.rb_sequence.specs.Cells.{AreInCells, CellToken, Cells, LastToken}
 use Rattle.rb_sequence.specs.Entry.{Entry}
 use Rattle.rb_sequence.specs.Items.{AreNumbered, own_of}
-use Rattle.rb_sequence.specs.declared.item.Item.{Item}
+use Rattle.rb_sequence.specs.Item.{Item}
 use Rattle.rb_intake.proofs.DrainLaws.{own_head}
 use Rattle.rb_intake.proofs.ItemLaws.{CountsFrom, numbered_pulled}
 use Rattle.rb_broker.specs.Publishers.{PublisherView}

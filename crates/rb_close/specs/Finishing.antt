@@ -1,10 +1,12 @@
 -- What a finished broker leaves: what each publisher sent, of what was placed and of what is left.
-use Rattle.std.specs.Prelude.{◌≡◌, ℕ, ◌+◌, ◌<◌, ◌⊎◌, List, [], ◌∷◌, ◌++◌, length, map}
+use Rattle.std.specs.Prelude.{◌≡◌, ℕ, ◌+◌, ◌<◌, ◌⊎◌, List, [], ◌∷◌, ◌++◌, length, map, Option, Some}
+use Rattle.std.specs.Prelude.{option_map}
 use Rattle.std.specs.List.{AllByRecursion}
-use Rattle.rb_sequence.specs.Cells.{Cells, IsLastToken, LastToken}
+use Rattle.atomic_table.specs.Seated.{TableId}
+use Rattle.rb_sequence.specs.Cells.{CellToken, Cells, IsLastToken, LastToken}
 use Rattle.rb_sequence.specs.Items.{own_of}
-use Rattle.rb_sequence.specs.declared.item.Item.{Item}
-use Rattle.rb_intake.specs.Passes.{SequencerKnows}
+use Rattle.rb_sequence.specs.Item.{Item}
+use Rattle.rb_intake.specs.Passes.{LastKnows, SequencerKnows}
 use Rattle.rb_broker.specs.Publishers.{PublisherView}
 use Rattle.rb_sequencer.specs.Turns.{SequencerState, in_hand, items_placed}
 use Rattle.rb_close.specs.declared.refusal.FinishRefusal.{FinishRefusal}
@@ -50,14 +52,24 @@ pub record Finishes (cells : Cells) (publishers : List PublisherView) (sequencer
   pub closed : IsLastToken cells closing
   pub last : closing.last ≡ placed
 
--- Why a broker isn't finished of which so many publishers were made: a publisher is missing only
--- where one of them isn't given, and memory runs out only where all are. What the closing cell
--- showed the call, no contract sees.
-abbrev pub RefusesFinish : ℕ → List PublisherView → FinishRefusal → Type 0
-RefusesFinish made publishers refusal.NotClosed = Unit {0}
-RefusesFinish made publishers refusal.Missing =
-    (n : ℕ) × (n < made) × (IsPresent n publishers → ⊥)
-RefusesFinish made publishers refusal.Memory = AreAllPresent made publishers
+-- The last pass of this queue pulled, in this order, what was placed and then what is left.
+abbrev pub PullsInOrder : TableId → List CellToken → List Item → LastKnows → Type 0
+PullsInOrder queue placed left pass = (pass.queue ≡ queue)
+    × (pass.pulled ≡ items_placed placed ++ left)
+
+-- the number that a token of the closing cell shows, if there is one
+abbrev pub closing_shown : Option LastToken → Option ℕ
+closing_shown closing = option_map (λ token. token.last) closing
+
+-- Why a broker isn't finished of which so many publishers were made and so many items placed, with
+-- what the closing cell shows. It isn't closed where that isn't the number of items placed. Else a
+-- publisher is missing where one isn't given. Else memory runs out.
+abbrev pub RefusesFinish : ℕ → ℕ → Option ℕ → List PublisherView → FinishRefusal → Type 0
+RefusesFinish made placed shown publishers refusal.NotClosed = shown ≡ Some placed → ⊥
+RefusesFinish made placed shown publishers refusal.Missing = (shown ≡ Some placed)
+    × (n : ℕ) × (n < made) × (IsPresent n publishers → ⊥)
+RefusesFinish made placed shown publishers refusal.Memory = (shown ≡ Some placed)
+    × AreAllPresent made publishers
 
 -- the publishers' numbers, each with what it sent
 abbrev pub sendings_of : List PublisherView → List (ℕ × List Item)

@@ -4,7 +4,7 @@ use Rattle.std.specs.List.{AllByRecursion}
 use Rattle.rb_sequence.specs.Cells.{AreInCells, Cells, IsLastToken, LastToken}
 use Rattle.rb_sequence.specs.Entry.{Entry}
 use Rattle.rb_sequence.specs.Items.{AreNumbered, CountsUp, own_of}
-use Rattle.rb_sequence.specs.declared.item.Item.{Item}
+use Rattle.rb_sequence.specs.Item.{Item}
 use Rattle.rb_broker.specs.Publishers.{PublisherView}
 use Rattle.rb_sequencer.specs.Turns.{SequencerState, in_hand, items_placed}
 use Rattle.rb_subscriber.specs.Accept.{HasSingleTables}

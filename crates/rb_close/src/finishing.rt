@@ -1,16 +1,16 @@
 //! `finish`: the end of a broker, when its threads have ended.
 
 ghost use Rattle.std.specs.Prelude.{◌≡◌, ◌+◌, ◌<◌, ◌≤◌, ℕ, [], length, IfErr, IfNone, IfOk};
-ghost use Rattle.std.specs.Prelude.{IfSome, OnOk};
-ghost use Rattle.std.specs.{Bool.{Decides}, Prelude.{vec_capacity}};
+ghost use Rattle.std.specs.Prelude.{IfSome, OnOk, Some};
+ghost use Rattle.std.specs.{Bool.{Decides}, Option.{option_copied}, Prelude.{vec_capacity}};
 ghost use Rattle.rb_close.specs.Finishing.{AreAllPresent, Finishes, IsPresent, JoinsPasses};
-ghost use Rattle.rb_close.specs.Finishing.{RefusesFinish, all_sent};
+ghost use Rattle.rb_close.specs.Finishing.{PullsInOrder, RefusesFinish, all_sent, closing_shown};
 ghost use Rattle.rb_sequence.specs.Cells.{IsLastToken};
 ghost use Rattle.rb_sequencer.specs.Turns.{in_hand};
 
 use crate::refusal::{FinishRefusal, Unfinished};
 use rb_broker::{Broker, Hall, Publisher, PublisherMaker};
-use rb_intake::{Intake, SequencerPass};
+use rb_intake::{Intake, LastPass, SequencerPass};
 use rb_sequence::{Item, Sequence, ToldLast};
 use rb_sequencer::Sequencer;
 use std::alloc::Global;
@@ -21,8 +21,11 @@ use std::sync::Wait;
 pub struct Finished {
     /// How many items were placed.
     pub placed: u64,
-    /// What was sent and isn't placed: the item in hand, then those that wait in the intake.
+    /// What was sent and isn't placed: the item in hand, then those that waited in the intake, in
+    /// their order.
     pub left: Vec<Item>,
+    /// The pass that pulled them. It shows all items in the order in which they left the intake.
+    pub pass: LastPass,
     /// The sequence.
     pub sequence: Sequence,
     /// Shows that the sequence is closed after the last placed number.
@@ -30,27 +33,36 @@ pub struct Finished {
 }
 
 /// Finishes a broker whose sequence is closed. Takes all its publishers, in any order, their maker
-/// and its sequencer. What each publisher sent is then what was placed of it, then what is left of
-/// it, in its order; each item is there once, and nothing else is.
+/// and its sequencer. `closing` is what the closing cell shows, as `Sequence::closing` returns it.
+/// What was placed, and then what is left, is all that left the intake, in its order. What each
+/// publisher sent is then what was placed of it, then what is left of it; each item is there once,
+/// and nothing else is.
 ///
-/// Refuses, in this order, `NotClosed`, `Missing` and `Memory`. All that was given comes back.
+/// Refuses, in this order, `NotClosed` if `closing` isn't the number of items placed, `Missing` if
+/// a publisher isn't given, and `Memory`. All that was given comes back.
 pub fn finish<L: Hall, R: Wait>(
     rt: &R,
     alloc: Global,
+    closing: Option<&ToldLast>,
     publishers: Vec<Publisher<L>>,
     sequencer: Sequencer<L>,
     maker: PublisherMaker<L>,
     broker: Broker<L>,
 ) -> Result<Finished, Unfinished<L>>
+    requires { IfSome (option_copied closing) (IsLastToken L.cells) }
     ensures ok { IfOk result (λ f.
         Finishes L.cells publishers.items sequencer f.placed f.left.items f.closing) }
+    ensures order { IfOk result (λ f.
+        PullsInOrder L.queue sequencer.placed f.left.items f.pass) }
     ensures sequence { IfOk result (λ f. f.sequence ≡ L.cells) }
+    ensures closing { IfOk result (λ f. option_copied closing.entry ≡ Some f.closing) }
     ensures all { OnOk result (AreAllPresent maker publishers.items) }
-    ensures why { IfErr result (λ u. RefusesFinish maker publishers.items u.why) }
+    ensures why { IfErr result (λ u. RefusesFinish maker (length sequencer.placed)
+        (closing_shown (option_copied closing.entry)) publishers.items u.why) }
     ensures back { IfErr result (λ u. (u.publishers.items ≡ publishers.items)
         × (u.sequencer ≡ sequencer) × (u.maker ≡ maker)) }
 {
-    match prepare(alloc, &publishers, &sequencer, &maker, &broker) {
+    match prepare(alloc, closing, &publishers, &sequencer, &maker) {
         Ok((left, closing)) => Ok(end(rt, publishers, sequencer, maker, broker, left, closing)),
         Err(why) => Err(Unfinished {
             why,
@@ -65,22 +77,23 @@ pub fn finish<L: Hall, R: Wait>(
 // Whether the broker can be finished: room for what is left, and the token of the closing cell.
 fn prepare<L: Hall>(
     alloc: Global,
+    closing: Option<&ToldLast>,
     publishers: &[Publisher<L>],
     sequencer: &Sequencer<L>,
     maker: &PublisherMaker<L>,
-    broker: &Broker<L>,
 ) -> Result<(Vec<Item>, ToldLast), FinishRefusal>
     ensures given { IfOk result (λ r. AreAllPresent maker.now publishers.now) }
     ensures empty { IfOk result (λ r. r.0.items ≡ []) }
     ensures hand { IfOk result (λ r. 1 ≤ vec_capacity r.0) }
     ensures room { IfOk result (λ r.
         all_sent publishers.now ≤ length sequencer.now.placed + vec_capacity r.0) }
-    ensures closing { IfOk result (λ r. IsLastToken L.cells r.1
+    ensures closing { IfOk result (λ r. (option_copied closing.entry ≡ Some r.1)
         × (r.1.last ≡ length sequencer.now.placed)) }
-    ensures err { IfErr result (RefusesFinish maker.now publishers.now) }
+    ensures err { IfErr result (RefusesFinish maker.now (length sequencer.now.placed)
+        (closing_shown (option_copied closing.entry)) publishers.now) }
 {
     let placed = sequencer.placed();
-    let Some(closing) = closing_at(broker.sequence(), placed) else {
+    let Some(closing) = closing_at(closing, placed) else {
         return Err(FinishRefusal::NotClosed);
     };
     match missing(publishers, maker.made()) {
@@ -93,12 +106,14 @@ fn prepare<L: Hall>(
 }
 
 // the closing cell's token, if it shows this number
-fn closing_at(sequence: &Sequence, placed: u64) -> Option<ToldLast>
-    ensures { IfSome result (λ told. IsLastToken sequence.now told × (told.last ≡ placed)) }
+fn closing_at(closing: Option<&ToldLast>, placed: u64) -> Option<ToldLast>
+    ensures some { IfSome result (λ told. (option_copied closing.entry ≡ Some told)
+        × (told.last ≡ placed)) }
+    ensures none { IfNone result (closing_shown (option_copied closing.entry) ≡ Some placed → ⊥) }
 {
-    let told = sequence.closing()?;
+    let told = closing?;
     if told.last() == placed {
-        Some(told)
+        Some(told.again())
     } else {
         None
     }
@@ -168,7 +183,9 @@ fn end<L: Hall, R: Wait>(
     requires closing { IsLastToken L.cells closing × (closing.last ≡ length sequencer.placed) }
     ensures finishes { Finishes L.cells publishers.items sequencer result.placed
         result.left.items result.closing }
+    ensures order { PullsInOrder L.queue sequencer.placed result.left.items result.pass }
     ensures sequence { result.sequence ≡ L.cells }
+    ensures closing { result.closing ≡ closing }
 {
     let placed = sequencer.placed();
     let (sequence, intake) = broker.into_parts();
@@ -176,10 +193,11 @@ fn end<L: Hall, R: Wait>(
     join_all(&intake, &mut pass, publishers);
     let last = intake.end(pass, maker.into_pass());
     let mut left = with_hand(left, hand);
-    intake.drain(rt, last, &mut left);
+    let pass = intake.drain(rt, last, &mut left);
     Finished {
         placed,
         left,
+        pass,
         sequence,
         closing,
     }

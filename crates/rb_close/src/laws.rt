@@ -7,7 +7,7 @@ ghost use Rattle.rb_close.specs.Finishing.{Finishes};
 ghost use Rattle.rb_close.specs.Headline.{HasAcceptedAll, KeepsRunningHeadline, ShowsPlaced};
 ghost use Rattle.rb_close.specs.Meeting.{HasMet};
 ghost use Rattle.rb_sequence.specs.Cells.{Cells, LastToken};
-ghost use Rattle.rb_sequence.specs.declared.item.Item.{Item};
+ghost use Rattle.rb_sequence.specs.Item.{Item};
 ghost use Rattle.rb_sequencer.specs.Turns.{SequencerState};
 ghost use Rattle.rb_subscriber.specs.Accept.{HasSingleTables};
 ghost use Rattle.rb_subscriber.specs.Shown.{entries_told};

@@ -7,3 +7,4 @@ pub mod RunCuts
 pub mod ByText
 pub mod AcceptedCursor
 pub mod ConflictRuns
+pub mod DeskReplays

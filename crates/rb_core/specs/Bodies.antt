@@ -3,7 +3,7 @@ use Rattle.std.specs.Prelude.{List, Option, IfSome}
 use Rattle.std.specs.List.{AllByRecursion}
 use Rattle.cs_model.specs.Bytes.{AreBytes}
 use Rattle.cs_model.specs.Changeset.{IsChangeset}
-use Rattle.rb_sequence.specs.declared.item.Item.{Item}
+use Rattle.rb_sequence.specs.Item.{Item}
 use Rattle.rb_sequence.specs.Entry.{Entry}
 use Rattle.rb_subscriber.specs.Accept.{AreChangesets}
 use Rattle.rb_core.specs.declared.publisher.Staged.{Staged}

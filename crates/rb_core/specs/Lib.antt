@@ -4,6 +4,7 @@ pub mod Outcome
 pub mod Combined
 pub mod Memory
 pub mod Run
+pub mod DeskSteps
 pub mod World
 pub mod Moves
 pub mod Told

@@ -9,7 +9,7 @@ use Rattle.cs_model.specs.Section.{Section}
 use Rattle.cs_apply.specs.State as tables
 use Rattle.cs_invert.specs.Inverse.{withdrawal_of}
 use Rattle.rb_desk.specs.declared.delivery.Delivery.{Delivery}
-use Rattle.rb_sequence.specs.declared.item.Item.{Item}
+use Rattle.rb_sequence.specs.Item.{Item}
 use Rattle.rb_sequence.specs.Entry.{Entry}
 use Rattle.rb_sequence.specs.Items.{own_of}
 use Rattle.rb_subscriber.specs.Accept.{part, brought, AcceptsDelivery}

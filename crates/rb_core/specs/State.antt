@@ -13,8 +13,7 @@ use Rattle.rb_desk.specs.IsPicture.{IsPicture}
 use Rattle.rb_desk.specs.Limits.{Limits}
 use Rattle.rb_desk.specs.Outline.{Member, outline_of}
 use Rattle.rb_desk.specs.Picture.{Picture, empty_picture}
-use Rattle.rb_sequence.specs.contracts.item.Item as item
-use Rattle.rb_sequence.specs.declared.item.Item.{Item}
+use Rattle.rb_sequence.specs.Item.{Item}
 use Rattle.rb_sequence.specs.Entry.{Entry}
 use Rattle.rb_sequence.specs.Items.{AreNumbered}
 use Rattle.rb_subscriber.specs.Accept.{IsAdmitted}

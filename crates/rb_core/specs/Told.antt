@@ -17,7 +17,7 @@ use Rattle.cs_apply.specs.State as tables
 use Rattle.cs_group.specs.Group.{group_of}
 use Rattle.rb_desk.specs.declared.delivery.Delivery.{Delivery}
 use Rattle.rb_desk.specs.Picture.{Picture}
-use Rattle.rb_sequence.specs.declared.item.Item.{Item}
+use Rattle.rb_sequence.specs.Item.{Item}
 use Rattle.rb_sequence.specs.Entry.{Entry}
 use Rattle.rb_subscriber.specs.Accept.{brought, joined_bodies}
 use Rattle.rb_subscriber.specs.Endpoint.{Endpoint}

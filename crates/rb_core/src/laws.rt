@@ -16,18 +16,20 @@ ghost use Rattle.rb_core.specs.declared.reply.BrokerRefusal.TheVariants as refus
 ghost use Rattle.rb_core.specs.declared.reply.Reply.{Reply};
 ghost use Rattle.rb_core.specs.declared.reply.Reply.TheVariants as reply;
 ghost use Rattle.rb_core.specs.Bodies.{HasChangesets};
+ghost use Rattle.rb_core.specs.DeskSteps.{desk_steps};
 ghost use Rattle.rb_core.specs.Headline.{HasTakenFed, KeepsHeadline};
 ghost use Rattle.rb_core.specs.Moves.{Leads, HasRun, StaysClosed, items_of, IsFront};
 ghost use Rattle.rb_sequence.specs.Items.{own_of};
 ghost use Rattle.rb_core.specs.Moves.{AreAllOf, IsSending};
 ghost use Rattle.rb_core.specs.Outcome.{outcome, delivery_of};
 ghost use Rattle.rb_core.specs.Run.{Answer, IsRunOf, RunsOn};
-ghost use Rattle.rb_core.specs.State.{State, IsWorld, empty_tables};
+ghost use Rattle.rb_core.specs.State.{State, IsWorld, empty_tables, empty_world};
 ghost use Rattle.rb_core.specs.Texts.{FeedsByText, EndsByText};
 ghost use Rattle.rb_core.specs.Told.{Paired, world_told, IsToldBy};
 ghost use Rattle.rb_core.specs.World.{Sender, Subscriber, World, world_begun, endpoint_of};
 ghost use Rattle.rb_desk.specs.declared.delivery.Delivery.{Delivery};
 ghost use Rattle.rb_desk.specs.Limits.{Limits};
+ghost use Rattle.rb_desk.specs.Steps.{replay};
 ghost use Rattle.rb_sequence.specs.Entry.{Entry};
 ghost use Rattle.rb_subscriber.specs.Accept.{brought, ConflictsSingly, HasSingleTables};
 ghost use Rattle.rb_subscriber.specs.declared.refusal.AcceptRefusal.TheVariants as why;
@@ -105,6 +107,18 @@ pub fn runs_are_told()
     progress_goes_on();
     progress_tells();
 }
+
+/// In every run, the steps that the events made at the desk lead to the desk's picture, and the
+/// world has counted them. So the laws of all lists of steps are laws of a world:
+/// `rb_desk::laws::no_number_is_lost` says that nothing placed is lost to its open subscriptions.
+pub fn desks_are_replays()
+    ensures desk { (limits : Limits) (schema : List Shape) (events : List Event)
+        (answers : List Answer) (new : State) → IsRunOf limits schema events answers new
+        → new.desk ≡ replay limits (desk_steps (empty_world limits schema) events answers) }
+    ensures counted { (limits : Limits) (schema : List Shape) (events : List Event)
+        (answers : List Answer) (new : State) → IsRunOf limits schema events answers new
+        → new.steps ≡ length (desk_steps (empty_world limits schema) events answers) }
+{}
 
 /// In every run, each publisher's stream has taken the bytes fed since the stream began, as events
 /// and replies report them. So `streams_answer_by_text` holds for that text. There are as many

@@ -5,7 +5,7 @@ ghost use Rattle.std.specs.Prelude.{IsSome, IsSomeAnd};
 ghost use Rattle.cs_parse.specs.End.{admitted_answer, left_by};
 ghost use Rattle.cs_parse.specs.Progress.{answer_at_end};
 ghost use Rattle.rb_core.specs.Outcome.{end_reply};
-ghost use Rattle.rb_core.specs.Memory.{MayRunOut};
+ghost use Rattle.rb_core.specs.{Memory.{MayRunOut}, State.{AdmitsBody, AdmitsStaged, IsWorld}};
 ghost use Rattle.rb_core.specs.Outcome as outcome;
 ghost use Rattle.rb_core.specs.declared.event.Event.TheVariants as event;
 ghost use Rattle.rb_core.specs.declared.publisher.PublisherState.{PublisherState};
@@ -15,6 +15,7 @@ use crate::parts::Parts;
 use crate::publisher::{PublisherState, Staged};
 use crate::reply::{BrokerRefusal, Reply};
 use crate::world::refused;
+use cs_group::laws::admitted_agree;
 use cs_model::{Changeset, Origin, Schema, SectionFault};
 use cs_parse::{EndError, ParseError, PieceParser};
 use rb_sequence::Item;
@@ -108,6 +109,7 @@ impl Parts {
 
     /// Moves what a publisher staged to the end of the intake, under that publisher's next number.
     pub(crate) fn send(&mut self, publisher: u64) -> Result<Reply, AllocError>
+        requires { IsWorld self.old }
         ensures ok { IfOk result (λ reply. outcome.sent self.old publisher ≡ (reply, self.new)) }
         ensures err { OnErr result (self.new ≡ self.old) }
         ensures memory { OnErr result (MayRunOut self.old (event.Send publisher)
@@ -139,7 +141,7 @@ impl Parts {
     // sends what a publisher has staged
     fn queue(&mut self, publisher: u64) -> Result<Reply, AllocError>
         requires { IsSomeAnd (slice_get self.old.publishers publisher)
-            (λ found. IsSome found.staged) }
+            (λ found. IsSome found.staged × AdmitsStaged self.old.schema found) }
         ensures ok { IfOk result (λ reply. (found : PublisherState) (staged : Staged)
             → slice_get self.old.publishers publisher ≡ Some found → found.staged ≡ Some staged
             → outcome.sent_item self.old publisher found staged ≡ (reply, self.new)) }
@@ -152,14 +154,27 @@ impl Parts {
         let found = &mut self.publishers[p];
         let staged = found.staged.take().unwrap();
         found.sent = own;
-        self.intake.push_back(Item {
-            publisher,
-            own,
-            origin: staged.origin,
-            body: staged.body,
-        })?;
+        let item = item_of(&self.schema, publisher, own, staged);
+        self.intake.push_back(item)?;
         Ok(Reply::Sent(own))
     }
+}
+
+// The item of what a publisher staged. The schema admits it, so sections of one name have one
+// shape.
+fn item_of(schema: &Schema, publisher: u64, own: u64, staged: Staged) -> Item
+    requires { AdmitsBody schema.now staged.body }
+    ensures { result ≡ record {
+      publisher = publisher;
+      own = own;
+      origin = staged.origin;
+      body = staged.body;
+    } }
+{
+    admitted_agree();
+    // for what its clause says: the tables are a schema
+    let _tables = schema.tables();
+    Item::new(publisher, own, staged.origin, staged.body)
 }
 
 // the changeset that a stream ends with, if the schema admits it

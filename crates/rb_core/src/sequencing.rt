@@ -34,7 +34,8 @@ impl Parts {
         make_room(&mut self.sequence)?;
         let item = take_next(&mut self.hand, &mut self.intake).unwrap();
         let number = self.desk.place();
-        self.sequence.push_reserved(Entry::new(number, item, form));
+        self.sequence
+            .push_reserved(Entry::new(alloc, number, item, form));
         Ok(Reply::Placed(number))
     }
 

@@ -1,14 +1,11 @@
 //! Withdrawals of entries.
 
 ghost use Rattle.std.specs.Prelude.{◌≡◌, ◌<◌, ◌≤◌, length, slice_get, Some, IfOk, OnErr, OnOk};
-ghost use Rattle.std.specs.{Prelude.{IfSome, IsSome}, Option.{option_copied}, Vec.{vec_capacity}};
-ghost use Rattle.std.specs.List.{AllByRecursion};
-ghost use Rattle.cs_invert.specs.Inverse.{withdrawal_of};
+ghost use Rattle.std.specs.{Prelude.{IsSome}, Option.{option_copied}, Vec.{vec_capacity}};
 ghost use Rattle.rb_core.specs.{Memory.{MayRunOut}, Outcome.{entry_of}};
 ghost use Rattle.rb_core.specs.declared.publisher.PublisherState.{PublisherState};
 ghost use Rattle.rb_core.specs.State.{IsWorld, is_withdrawn, with_mark};
 ghost use Rattle.rb_sequence.specs.{Entry.{Entry}, Items.{AreNumbered}};
-ghost use Rattle.rb_subscriber.specs.Accept.{IsAdmitted};
 ghost use Rattle.rb_core.specs.Outcome as outcome;
 ghost use Rattle.rb_core.specs.declared.event.Event.TheVariants as event;
 
@@ -16,10 +13,8 @@ use crate::parts::Parts;
 use crate::publisher::Staged;
 use crate::reply::{BrokerRefusal, Reply};
 use crate::world::refused;
-use cs_group::GroupError;
-use cs_group::laws::admitted_never_clash;
-use cs_invert::withdrawal;
-use cs_model::{Changeset, Origin, Schema};
+use cs_invert::withdrawal_agreeing;
+use cs_model::Origin;
 use rb_sequence::Entry;
 use std::alloc::{AllocError, Global};
 
@@ -67,14 +62,13 @@ impl Parts {
         requires numbered { AreNumbered (λ entry. entry.number) 1 self.old.sequence }
         requires publisher { publisher < length self.old.publishers }
         requires placed { IsSome (entry_of self.old number) }
-        requires admitted { AllByRecursion (IsAdmitted self.old.schema) self.old.sequence }
         ensures ok { IfOk result (λ reply. (found : PublisherState) (entry : Entry)
             → slice_get self.old.publishers publisher ≡ Some found
             → entry_of self.old number ≡ Some entry
             → outcome.withdrawn_entry self.old publisher found number entry ≡ (reply, self.new)) }
         ensures err { OnErr result (self.new ≡ self.old) }
     {
-        let body = withdrawal_admitted(alloc, &self.schema, self.placed(number).unwrap())?;
+        let body = withdrawal_agreeing(alloc, self.placed(number).unwrap().body())?;
         set_mark(&mut self.withdrawn, number.saturating_sub(1) as usize)?;
         let found = &mut self.publishers[publisher as usize];
         found.staged = Some(Staged {
@@ -87,9 +81,7 @@ impl Parts {
     // the entry with this number
     fn placed(&self, number: u64) -> Option<&Entry>
         requires { AreNumbered (λ entry. entry.number) 1 self.now.sequence }
-        ensures entry { option_copied result ≡ entry_of self.now number }
-        ensures admitted { AllByRecursion (IsAdmitted self.now.schema) self.now.sequence
-            → IfSome result (λ entry. IsAdmitted self.now.schema entry.now) }
+        ensures { option_copied result ≡ entry_of self.now number }
     {
         let place = number.checked_sub(1)?;
         self.sequence.get(place as usize)
@@ -101,25 +93,6 @@ impl Parts {
     {
         let place = number.saturating_sub(1) as usize;
         place < self.withdrawn.len() && self.withdrawn[place]
-    }
-}
-
-// the withdrawal of an entry's changeset, which the schema admits, so no two of its sections clash
-fn withdrawal_admitted(
-    alloc: Global,
-    schema: &Schema,
-    entry: &Entry,
-) -> Result<Changeset, AllocError>
-    requires { IsAdmitted schema.now entry.now }
-    ensures { IfOk result (λ made. made ≡ withdrawal_of entry.now.item.body) }
-{
-    admitted_never_clash();
-    // for what its clause says: no table is refused
-    let _tables = schema.tables();
-    match withdrawal(alloc, entry.body()) {
-        Ok(body) => Ok(body),
-        Err(GroupError::Memory) => Err(AllocError),
-        Err(GroupError::Schema { .. }) => unreachable!(),
     }
 }
 

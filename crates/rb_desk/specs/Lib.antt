@@ -9,3 +9,8 @@ pub mod Journaled
 pub mod IsPicture
 pub mod Rows
 pub mod Outline
+pub mod History
+pub mod FullSpans
+pub mod FullPicture
+pub mod FullCalls
+pub mod HistoryRows

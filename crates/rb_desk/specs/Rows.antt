@@ -11,7 +11,7 @@ use Rattle.rb_desk.specs.Calls.{place, close, nack_opened}
 use Rattle.rb_desk.specs.Steps.{after_step, replay, replayed}
 
 -- batches of one number with two deliveries in flight; batches of up to 256
-abbrev two_in_flight : Limits
+abbrev pub two_in_flight : Limits
 two_in_flight = six_limits 1 2 10 9 1 1
 
 abbrev large_batches : Limits

@@ -2,7 +2,7 @@
 //! function that does nothing; its contract is the law. Call the function to use the law.
 
 ghost use Rattle.std.specs.Prelude.{◌≡◌, ℕ, suc, ◌+◌, ◌<◌, ◌≤◌, ◌++◌, ◌∷◌, Bool, List, []};
-ghost use Rattle.std.specs.Prelude.{if◌then◌else◌, length, Some, Ok, Err};
+ghost use Rattle.std.specs.Prelude.{if◌then◌else◌, length, Some, Ok, Err, slice_get, false, ◌⊎◌};
 ghost use Rattle.rb_desk.specs.declared.delivery.Delivery.{Delivery};
 ghost use Rattle.rb_desk.specs.declared.refusal.DeskRefusal.{DeskRefusal};
 ghost use Rattle.rb_desk.specs.declared.refusal.DeskRefusal.TheVariants.{Drained};
@@ -16,7 +16,15 @@ ghost use Rattle.rb_desk.specs.Steps.{RisesAbove, FloorsRise, KeepsFrame};
 ghost use Rattle.rb_desk.specs.Outline.{outline_of};
 ghost use Rattle.rb_desk.specs.Outline as outline;
 ghost use Rattle.rb_desk.specs.Journaled.{JournaledPicture, counted_steps, is_own, journaled};
-ghost use Rattle.rb_desk.specs.IsPicture.{AreInRange, IsPicture};
+ghost use Rattle.rb_deliveries.specs.Picture.{Subscription};
+ghost use Rattle.rb_desk.specs.IsPicture.{AreInRange, IsPicture, how_often};
+ghost use Rattle.rb_desk.specs.History.{IsAccountedFor, WasAckedUnder, WasSettled, how_many_have};
+ghost use Rattle.rb_desk.specs.FullSpans.{IsInSettled, IsPartition, IsSettledSpan};
+ghost use Rattle.rb_desk.specs.FullPicture.{FullSubscription, unsettled_picture};
+ghost use Rattle.rb_desk.specs.FullCalls.{full_ack, full_close, full_expire, full_nack};
+ghost use Rattle.rb_desk.specs.FullCalls.{full_nack_opened, full_prepare, full_reconnect};
+ghost use Rattle.rb_desk.specs.FullCalls.{full_replay, full_subscribe, full_take, full_take_any};
+ghost use Rattle.rb_desk.specs.FullCalls.{full_unsubscribe};
 
 /// Every call preserves the invariant of a picture (*IsPicture*), whatever its operands are.
 pub fn calls_keep_pictures()
@@ -157,4 +165,101 @@ pub fn steps_are_counted()
     ensures own { (old : JournaledPicture) (step : Step) (picture : Picture)
         → counted_steps is_own (journaled old step picture).steps
         ≡ counted_steps is_own old.steps + (if is_own step then 1 else 0) }
+{}
+
+/// Nothing placed is lost to an open subscription, and nothing is in two deliveries at once.
+///
+/// After any list of calls, look at a number after the subscription's start, up to the front. It is
+/// settled, since a reconnect passed it or it was acknowledged under the subscription's link; or
+/// exactly one span has it, ready or in flight (`accounted`). No number is in two spans (`once`),
+/// and none up to the floor is in one (`settled`). What is settled is in none (`not_again`), so it
+/// is not delivered again before a reconnect.
+///
+/// Each `Desk` has this of its own journal: the steps lead to its picture (`Desk::steps`), and its
+/// limits are in range (`Desk::config`).
+pub fn no_number_is_lost()
+    ensures accounted { (limits : Limits) (steps : List Step) (s : ℕ) (q : Subscription) (n : ℕ)
+        → AreInRange limits
+        → slice_get (replay limits steps).subscriptions s ≡ Some q → q.closed ≡ false
+        → q.start < n → n ≤ (replay limits steps).front → IsAccountedFor limits steps s q n }
+    ensures once { (limits : Limits) (steps : List Step) (s : ℕ) (q : Subscription) (n : ℕ)
+        → AreInRange limits
+        → slice_get (replay limits steps).subscriptions s ≡ Some q → how_many_have n q.spans ≤ 1 }
+    ensures settled { (limits : Limits) (steps : List Step) (s : ℕ) (q : Subscription) (n : ℕ)
+        → AreInRange limits
+        → slice_get (replay limits steps).subscriptions s ≡ Some q → n ≤ q.floor
+        → how_many_have n q.spans ≡ 0 }
+    ensures not_again { (limits : Limits) (steps : List Step) (s : ℕ) (q : Subscription) (n : ℕ)
+        → AreInRange limits
+        → slice_get (replay limits steps).subscriptions s ≡ Some q
+        → WasSettled limits steps s q.link n → how_many_have n q.spans ≡ 0 }
+{}
+
+/// The desk's picture is a full picture without its settled spans. In a full picture each number
+/// after an open subscription's floor, up to the front, is in exactly one span. This span is ready,
+/// in flight or settled.
+///
+/// The same calls lead to both (`shows`). An open subscription's spans partition these numbers
+/// (`partition`). A settled span is in neither order (`orders`), and each of its numbers was
+/// acknowledged under the subscription's link (`acked`). A number that was acknowledged so is in a
+/// settled span, or the floor has passed it (`stays`).
+pub fn spans_are_a_partition()
+    ensures shows { (limits : Limits) (steps : List Step) → AreInRange limits
+        → replay limits steps ≡ unsettled_picture (full_replay limits steps) }
+    ensures partition { (limits : Limits) (steps : List Step) (s : ℕ) (q : FullSubscription)
+        → AreInRange limits
+        → slice_get (full_replay limits steps).subscriptions s ≡ Some q → q.closed ≡ false
+        → IsPartition (suc q.floor) q.spans (full_replay limits steps).front }
+    ensures orders { (limits : Limits) (steps : List Step) (s : ℕ) (q : FullSubscription)
+        → (first last : ℕ) → AreInRange limits
+        → slice_get (full_replay limits steps).subscriptions s ≡ Some q
+        → IsSettledSpan first last q.spans
+        → (how_often s first (full_replay limits steps).ready ≡ 0)
+        × (how_often s first (full_replay limits steps).in_flight ≡ 0) }
+    ensures acked { (limits : Limits) (steps : List Step) (s : ℕ) (q : FullSubscription) (n : ℕ)
+        → AreInRange limits
+        → slice_get (full_replay limits steps).subscriptions s ≡ Some q
+        → IsInSettled n q.spans → WasAckedUnder limits steps s q.link n }
+    ensures stays { (limits : Limits) (steps : List Step) (s : ℕ) (q : FullSubscription) (n : ℕ)
+        → AreInRange limits
+        → slice_get (full_replay limits steps).subscriptions s ≡ Some q → q.closed ≡ false
+        → WasAckedUnder limits steps s q.link n → (n ≤ q.floor) ⊎ IsInSettled n q.spans }
+{}
+
+/// Each call returns the same on both pictures, after any list of calls.
+pub fn partitions_answer_alike()
+    ensures subscribe { (limits : Limits) (steps : List Step) (start : ℕ) → AreInRange limits
+        → (subscribe (replay limits steps) start).0
+        ≡ (full_subscribe (full_replay limits steps) start).0 }
+    ensures take { (limits : Limits) (steps : List Step) (s link cursor now : ℕ)
+        → AreInRange limits
+        → (take (replay limits steps) s link cursor now).0
+        ≡ (full_take (full_replay limits steps) s link cursor now).0 }
+    ensures take_any { (limits : Limits) (steps : List Step) (now : ℕ) → AreInRange limits
+        → (take_any (replay limits steps) now).0
+        ≡ (full_take_any (full_replay limits steps) now).0 }
+    ensures ack { (limits : Limits) (steps : List Step) (s link number cursor : ℕ)
+        → AreInRange limits
+        → (ack (replay limits steps) s link number cursor).0
+        ≡ (full_ack (full_replay limits steps) s link number cursor).0 }
+    ensures nack { (limits : Limits) (steps : List Step) (s link number : ℕ) → AreInRange limits
+        → (nack (replay limits steps) s link number).0
+        ≡ (full_nack (full_replay limits steps) s link number).0 }
+    ensures nack_opened { (limits : Limits) (steps : List Step) (s link number : ℕ)
+        → AreInRange limits
+        → (nack_opened (replay limits steps) s link number).0
+        ≡ (full_nack_opened (full_replay limits steps) s link number).0 }
+    ensures expire { (limits : Limits) (steps : List Step) (now : ℕ) → AreInRange limits
+        → (expire (replay limits steps) now).0
+        ≡ (full_expire (full_replay limits steps) now).0 }
+    ensures reconnect { (limits : Limits) (steps : List Step) (s cursor : ℕ) → AreInRange limits
+        → (reconnect (replay limits steps) s cursor).0
+        ≡ (full_reconnect (full_replay limits steps) s cursor).0 }
+    ensures unsubscribe { (limits : Limits) (steps : List Step) (s link : ℕ) → AreInRange limits
+        → (unsubscribe (replay limits steps) s link).0
+        ≡ (full_unsubscribe (full_replay limits steps) s link).0 }
+    ensures prepare { (limits : Limits) (steps : List Step) → AreInRange limits
+        → prepare (replay limits steps) ≡ full_prepare (full_replay limits steps) }
+    ensures close { (limits : Limits) (steps : List Step) → AreInRange limits
+        → (close (replay limits steps)).0 ≡ (full_close (full_replay limits steps)).0 }
 {}

@@ -288,7 +288,16 @@ fn end<L: Hall, S: Closable + Drop, R: Wait>(
     // for what their clauses say
     let _placed = sequencer.placed();
     let _hand = sequencer.hand();
-    match finish(rt, alloc, publishers, sequencer, maker, broker) {
+    let closing = broker.sequence().closing();
+    match finish(
+        rt,
+        alloc,
+        closing.as_ref(),
+        publishers,
+        sequencer,
+        maker,
+        broker,
+    ) {
         Ok(Finished { placed, left, .. }) => Ok(Outcome {
             placed,
             left: left.len() as u64,

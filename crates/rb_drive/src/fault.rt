@@ -15,10 +15,10 @@ pub enum DriveFault {
     #[error("too many subscribers")]
     TooMany,
     /// The reader failed. No thread was started.
-    #[error("read fault: {0}")]
+    #[error("read fault")]
     Read(io::Error),
     /// The writer failed, or accepted no byte.
-    #[error("write fault: {0}")]
+    #[error("write fault")]
     Write(io::Error),
     /// The line with this number, from 1, is the first bad one. No thread was started.
     #[error("line {0}")]

@@ -20,7 +20,7 @@ use cs_apply::Tables;
 use cs_model::{Row, RowKey, SectionFault};
 use cs_parse::EndError;
 use rb_broker::Hall;
-use rb_script::{add_row, name_of, write_whole};
+use rb_script::{add_row, flush, name_of, write_whole};
 use std::alloc::{AllocError, Global};
 use std::io;
 use std::io::Write;
@@ -57,7 +57,7 @@ fn write_with_subscribers<L: Hall, W: Write>(
 {
     write_whole(writer, text)?;
     write_subscribers(alloc, writer, all)?;
-    writer.flush()
+    flush(writer)
 }
 
 // the counts and the faulty lines

@@ -5,7 +5,7 @@ use Rattle.std.specs.List.{AllByRecursion}
 use Rattle.std.proofs.lemmas.Bool.Decides.{eqb_tells}
 use Rattle.std.proofs.Common.{append_assoc}
 use Rattle.std.proofs.lemmas.List.{length-append, append-nil}
-use Rattle.rb_sequence.specs.declared.item.Item.{Item}
+use Rattle.rb_sequence.specs.Item.{Item}
 use Rattle.rb_sequence.specs.Items.{own_of}
 use Rattle.rb_intake.specs.Joined.{HasEndedAs, JoinedOnce}
 use Rattle.rb_intake.specs.Passes.{total_sent, LastKnows, IsAllPulledAnd, AreOfJoined, Drains}
@@ -153,10 +153,11 @@ drain_goes_on first now new old items item so pop = (
 )
 
 pub drained : (first now new : LastKnows) (old items : List Item) → Draining first now old items
-    → ((p : ℕ) → p < first.made → HasEndedAs p first.ended) → PopsLast None now new → Drains first old items
+    → ((p : ℕ) → p < first.made → HasEndedAs p first.ended) → PopsLast None now new → Drains first old items new
 drained first now new old items so all pop = (
   so.0,
   so.1,
+  pop.0 ∙ so.2,
   whole,
   theirs,
   sym (joined_exact first.ended (first.pulled ++ so.0) apart theirs)

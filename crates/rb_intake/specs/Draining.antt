@@ -1,6 +1,6 @@
 -- One pop of the last pass.
 use Rattle.std.specs.Prelude.{◌≡◌, ℕ, ◌≤◌, [], ◌∷◌, ◌++◌, Option, Some, None}
-use Rattle.rb_sequence.specs.declared.item.Item.{Item}
+use Rattle.rb_sequence.specs.Item.{Item}
 use Rattle.rb_sequence.specs.Items.{own_of}
 use Rattle.rb_intake.specs.Passes.{LastKnows, IsAllPulledAnd}
 use Rattle.rb_intake.specs.Joined.{JoinedOnce}

@@ -1,6 +1,6 @@
 -- The publishers that were joined, each with what it sent.
 use Rattle.std.specs.Prelude.{◌≡◌, ℕ, ◌⊎◌, List, [], ◌∷◌}
-use Rattle.rb_sequence.specs.declared.item.Item.{Item}
+use Rattle.rb_sequence.specs.Item.{Item}
 
 -- a publisher of this number was joined
 abbrev pub HasEndedAs : ℕ → List (ℕ × List Item) → Type 0

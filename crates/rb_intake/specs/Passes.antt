@@ -2,7 +2,7 @@
 use Rattle.std.specs.Prelude.{◌≡◌, ℕ, ◌+◌, List, [], ◌∷◌, ◌++◌, length}
 use Rattle.std.specs.List.{AllByRecursion}
 use Rattle.atomic_table.specs.Seated.{TableId}
-use Rattle.rb_sequence.specs.declared.item.Item.{Item}
+use Rattle.rb_sequence.specs.Item.{Item}
 use Rattle.rb_sequence.specs.Items.{own_of}
 use Rattle.rb_intake.specs.Joined.{HasEndedAs}
 
@@ -50,10 +50,11 @@ IsAllPulledAnd p more = AllByRecursion (λ e. e.1 ≡ own_of e.0 (p.pulled ++ mo
 abbrev pub AreOfJoined : List (ℕ × List Item) → List Item → Type 0
 AreOfJoined ended items = AllByRecursion (λ item. HasEndedAs item.publisher ended) items
 
--- The items that were left are appended to these: then what each joined publisher sent is all
--- there, and nothing else is.
-abbrev pub Drains : LastKnows → List Item → List Item → Type 0
-Drains p old new = (more : List Item) × (new ≡ old ++ more) × IsAllPulledAnd p more
+-- The items that were left are appended to these, in the order in which they were pulled: then what
+-- each joined publisher sent is all there, and nothing else is.
+abbrev pub Drains : LastKnows → List Item → List Item → LastKnows → Type 0
+Drains p old new last = (more : List Item) × (new ≡ old ++ more)
+    × (last ≡ record p { pulled = p.pulled ++ more }) × IsAllPulledAnd p more
     × AreOfJoined p.ended (p.pulled ++ more) × (length (p.pulled ++ more) ≡ total_sent p.ended)
 
 -- what each joined publisher sent was pulled

@@ -93,7 +93,7 @@ impl Intake {
         ensures err { OnErr result (pass.new ≡ pass.old) }
         ensures full { IfErr result (λ back. back ≡ item) }
     {
-        let own = item.own;
+        let own = item.own();
         self.queue.push_as::<Push, R>(rt, &mut pass.seat, item)?;
         pass.count = own;
         Ok(())
@@ -148,18 +148,20 @@ impl Intake {
         self.queue.pop_as::<PopLast, R>(rt, &mut pass.seat)
     }
 
-    /// Takes all items that wait, and appends them to `left`. All publishers that were made have
-    /// been joined, and there is room for what they sent and nobody pulled.
-    pub fn drain<R: Wait>(&self, rt: &R, pass: LastPass, left: &mut Vec<Item>)
+    /// Pulls all items that wait, and appends them to `left` in their order. All publishers that
+    /// were made have been joined, and there is room for what they sent and nobody pulled. The pass
+    /// that comes back shows everything that was pulled.
+    pub fn drain<R: Wait>(&self, rt: &R, pass: LastPass, left: &mut Vec<Item>) -> LastPass
         requires queue { pass.queue ≡ self.now.queue }
         requires all { (p : ℕ) → p < pass.made → HasEndedAs p pass.ended }
         requires room { total_sent pass.ended + vec_len left.old
             ≤ length pass.pulled + vec_capacity left.old }
-        ensures { Drains pass left.old.items left.new.items }
+        ensures { Drains pass left.old.items left.new.items result }
     {
         let mut pass = pass;
         while let Some(item) = self.pop_last(rt, &mut pass) {
             left.push_reserved(item);
         }
+        pass
     }
 }

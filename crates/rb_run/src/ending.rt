@@ -105,17 +105,18 @@ impl Ending {
     }
 
     /// Says on `errors` why it ends so: a line that begins with the program's name, or what the
-    /// parser of command lines says. Says nothing if the request is done, or if a report says it.
+    /// parser of command lines says. The system's reason stands on a line of its own after it. Says
+    /// nothing if the request is done, or if a report says it.
     pub fn tell<E: Write>(&self, errors: &mut E) -> io::Result<()>
         ensures { OnOk result
             (IsReported self.now (E.contents errors.old) (E.contents errors.new)) }
     {
         match self {
             Ending::Done | Ending::Conflicting => Ok(()),
-            Ending::Stopped(fault) => write_line(errors, fault),
+            Ending::Stopped(fault) => write_fault(errors, fault, reason(fault)),
             Ending::Refused(line) => write_line(errors, line),
-            Ending::Unshown(fault) => write_line(errors, fault),
-            Ending::Undriven(fault) => write_line(errors, fault),
+            Ending::Unshown(fault) => write_fault(errors, fault, reason_of_show(fault)),
+            Ending::Undriven(fault) => write_fault(errors, fault, reason_of_drive(fault)),
             Ending::Misused(text) => write_text(errors, text),
             Ending::OutOfRange(fault) => write_line(errors, range(*fault)),
             Ending::NotText => write_line(errors, "an argument isn't UTF-8"),
@@ -130,6 +131,47 @@ fn write_line<E: Write, D: Display + Drop>(errors: &mut E, text: D) -> io::Resul
 {
     writeln!(errors, "rb_run: {text}")?;
     errors.flush()
+}
+
+// Writes the program's name and this text in a line, and then the system's reason in another one,
+// if there is one.
+fn write_fault<E: Write, D: Display + Drop>(
+    errors: &mut E,
+    text: D,
+    reason: Option<&io::Error>,
+) -> io::Result<()> {
+    writeln!(errors, "rb_run: {text}")?;
+    if let Some(reason) = reason {
+        writeln!(errors, "{reason}")?;
+    }
+    errors.flush()
+}
+
+// what the system said when a script stopped
+fn reason(fault: &ScriptFault) -> Option<&io::Error> {
+    match fault {
+        ScriptFault::Read(reason) => Some(reason),
+        ScriptFault::Write(reason) => Some(reason),
+        _ => None,
+    }
+}
+
+// what the system said when the showing of rows stopped
+fn reason_of_show(fault: &ShowFault) -> Option<&io::Error> {
+    match fault {
+        ShowFault::Read(reason) => Some(reason),
+        ShowFault::Write(reason) => Some(reason),
+        _ => None,
+    }
+}
+
+// what the system said when a drive stopped
+fn reason_of_drive(fault: &DriveFault) -> Option<&io::Error> {
+    match fault {
+        DriveFault::Read(reason) => Some(reason),
+        DriveFault::Write(reason) => Some(reason),
+        _ => None,
+    }
 }
 
 fn write_text<E: Write>(errors: &mut E, text: &Error) -> io::Result<()> {

@@ -4,3 +4,5 @@ pub mod whole_scripts
 pub mod endings
 -- The bytes of numbers, hexadecimal texts and rows.
 pub mod spelled
+-- Pieces of a text, written in hexadecimal.
+pub mod sinks

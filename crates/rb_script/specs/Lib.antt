@@ -11,3 +11,4 @@ pub mod Refusing
 pub mod Answering
 pub mod Feeding
 pub mod Ends
+pub mod Sinks

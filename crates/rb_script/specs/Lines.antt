@@ -21,6 +21,8 @@ use Rattle.rb_core.specs.State.{State, empty_world, how_many_wait}
 use Rattle.rb_sequence.specs.Entry.{Entry}
 use Rattle.rb_core.specs.Combined.{combined_of}
 use Rattle.rb_core.specs.Outcome.{outcome, entry_of}
+use Rattle.rb_script.specs.declared.answer.LineAnswer.{LineAnswer}
+use Rattle.rb_script.specs.declared.answer.LineAnswer.TheVariants.{Text, Combined}
 use Rattle.rb_script.specs.declared.forms.Form.{Form}
 use Rattle.rb_script.specs.declared.forms.Form.TheVariants as form
 use Rattle.rb_script.specs.declared.lines.Stage.{Stage}
@@ -85,6 +87,11 @@ entry_answer world n = line_of (found_entry (entry_of world n))
 abbrev pub found_changeset : Option (List Section) → List ℕ
 found_changeset None = codes "refused NotPlaced"
 found_changeset (Some sections) = codes "text " ++ bytes_word (text_of sections)
+
+-- the bytes of an answer that is kept as a text, or as the changeset that `combine` made
+abbrev pub answer_text : LineAnswer → List ℕ
+answer_text (Text text) = text.items
+answer_text (Combined sections) = line_of (found_changeset (Some sections))
 
 abbrev pub combine_answer : State → ℕ → ℕ → List ℕ
 combine_answer world first last = line_of (found_changeset (combined_of world first last))

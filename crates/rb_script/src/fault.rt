@@ -15,13 +15,13 @@ use thiserror::Error;
 #[derive(Debug, Drop, Error)]
 pub enum ScriptFault {
     /// The reader failed.
-    #[error("read fault: {0}")]
+    #[error("read fault")]
     Read(io::Error),
     /// The writer failed, or accepted no byte.
-    #[error("write fault: {0}")]
+    #[error("write fault")]
     Write(io::Error),
     /// The script has more than 16,777,216 bytes.
-    #[error("script too long: more than 16777216 bytes")]
+    #[error("script too long")]
     Endless,
     /// Memory ran out.
     #[error("out of memory")]

@@ -3,13 +3,16 @@
 //! its lines and the replies to them are a run of the world, so each law of runs holds for scripts.
 #![tactic(auto)]
 
+mod answer;
 mod answering;
 mod fault;
 mod forms;
 mod header;
+mod hex_sink;
 pub mod laws;
 mod lines;
 mod output;
+mod piece_list;
 mod reading;
 mod replies;
 mod script;

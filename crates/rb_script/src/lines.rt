@@ -6,13 +6,14 @@ ghost use Rattle.cs_model.specs.Schema.{table_refusal};
 ghost use Rattle.rb_core.specs.Outcome.{outcome};
 ghost use Rattle.rb_script.specs.Lines.{line_answer, form_answer, line_of, world_of, event_answer};
 ghost use Rattle.rb_script.specs.Lines.{entry_answer, rows_answer, left_answer, with_line_end};
-ghost use Rattle.rb_script.specs.Lines.{combine_answer, table_answer, table_added};
+ghost use Rattle.rb_script.specs.Lines.{answer_text, combine_answer, table_answer, table_added};
 
+use crate::answer::LineAnswer;
 use crate::forms::Form;
 use crate::header::header_in;
 use crate::reading::form;
 use crate::replies::{text_of, text_of_desk_refusal};
-use crate::texts::{text_of_changeset, text_of_entry, text_of_rows};
+use crate::texts::{text_of_entry, text_of_rows};
 use cs_model::{CopyIn, Schema, SchemaError, Shape, TableFault};
 use rb_core::{Config, Event, World};
 use rb_desk::DeskRefusal;
@@ -36,11 +37,12 @@ pub fn answer(
     config: Config,
     stage: Stage,
     line: &[u8],
-) -> Result<(Vec<u8>, Stage), AllocError>
-    ensures { IfOk result (λ given. line_answer config stage line.now ≡ (given.0.items, given.1)) }
+) -> Result<(LineAnswer, Stage), AllocError>
+    ensures { IfOk result (λ given. line_answer config stage line.now
+        ≡ (answer_text given.0, given.1)) }
 {
     if line.is_empty() {
-        return Ok((Vec::new(alloc), stage));
+        return Ok((LineAnswer::Text(Vec::new(alloc)), stage));
     }
     if line.len() > MOST_OF_LINE {
         return Ok((text_line(alloc, "refused LineTooLong")?, stage));
@@ -54,8 +56,9 @@ fn answer_form(
     config: Config,
     stage: Stage,
     form: Option<Form>,
-) -> Result<(Vec<u8>, Stage), AllocError>
-    ensures { IfOk result (λ given. form_answer config stage form ≡ (given.0.items, given.1)) }
+) -> Result<(LineAnswer, Stage), AllocError>
+    ensures { IfOk result (λ given. form_answer config stage form
+        ≡ (answer_text given.0, given.1)) }
 {
     match form {
         None => Ok((text_line(alloc, "refused Line")?, stage)),
@@ -85,13 +88,13 @@ fn answer_form(
 }
 
 // a text with a line end
-fn text_line(alloc: Global, text: &str) -> Result<Vec<u8>, AllocError>
-    ensures { IfOk result (λ line. line.items ≡ line_of text.now) }
+fn text_line(alloc: Global, text: &str) -> Result<LineAnswer, AllocError>
+    ensures { IfOk result (λ line. answer_text line ≡ line_of text.now) }
 {
     let mut line = Vec::new(alloc);
     line.extend_from_slice(text.as_bytes())?;
     line.push(b'\n')?;
-    Ok(line)
+    Ok(LineAnswer::Text(line))
 }
 
 // the world, which begins with the first line of another form than `table`
@@ -104,8 +107,9 @@ fn begin(alloc: Global, config: Config, stage: Stage) -> Result<World, AllocErro
     }
 }
 
-fn happen(alloc: Global, mut world: World, event: Event) -> Result<(Vec<u8>, Stage), AllocError>
-    ensures { IfOk result (λ given. event_answer (outcome world event) ≡ (given.0.items, given.1)) }
+fn happen(alloc: Global, mut world: World, event: Event) -> Result<(LineAnswer, Stage), AllocError>
+    ensures { IfOk result (λ given. event_answer (outcome world event)
+        ≡ (answer_text given.0, given.1)) }
 {
     let reply = world.step(alloc, event)?;
     let text = text_of(alloc, reply)?;
@@ -113,55 +117,51 @@ fn happen(alloc: Global, mut world: World, event: Event) -> Result<(Vec<u8>, Sta
     Ok((line, Stage::Running(world)))
 }
 
-fn entry(alloc: Global, world: &World, number: u64) -> Result<Vec<u8>, AllocError>
-    ensures { IfOk result (λ line. line.items ≡ entry_answer world.now number) }
+fn entry(alloc: Global, world: &World, number: u64) -> Result<LineAnswer, AllocError>
+    ensures { IfOk result (λ line. answer_text line ≡ entry_answer world.now number) }
 {
     match world.entry(number) {
         None => text_line(alloc, "refused NotPlaced"),
         Some(found) => {
             let mut line = text_of_entry(alloc, found)?;
             line.push(b'\n')?;
-            Ok(line)
+            Ok(LineAnswer::Text(line))
         }
     }
 }
 
-fn combine(alloc: Global, world: &World, first: u64, last: u64) -> Result<Vec<u8>, AllocError>
-    ensures { IfOk result (λ line. line.items ≡ combine_answer world.now first last) }
+fn combine(alloc: Global, world: &World, first: u64, last: u64) -> Result<LineAnswer, AllocError>
+    ensures { IfOk result (λ line. answer_text line ≡ combine_answer world.now first last) }
 {
     match world.combined(alloc, first, last)? {
         None => text_line(alloc, "refused NotPlaced"),
-        Some(changeset) => {
-            let mut line = text_of_changeset(alloc, &changeset)?;
-            line.push(b'\n')?;
-            Ok(line)
-        }
+        Some(changeset) => Ok(LineAnswer::Combined(changeset)),
     }
 }
 
-fn rows(alloc: Global, world: &World, subscription: u64) -> Result<Vec<u8>, AllocError>
-    ensures { IfOk result (λ text. text.items ≡ rows_answer world.now subscription) }
+fn rows(alloc: Global, world: &World, subscription: u64) -> Result<LineAnswer, AllocError>
+    ensures { IfOk result (λ text. answer_text text ≡ rows_answer world.now subscription) }
 {
     match world.rows(alloc, subscription)? {
         None => {
             let text = text_of_desk_refusal(alloc, DeskRefusal::NoSuch)?;
             text_line(alloc, &text)
         }
-        Some(rows) => text_of_rows(alloc, &rows),
+        Some(rows) => Ok(LineAnswer::Text(text_of_rows(alloc, &rows)?)),
     }
 }
 
-fn left(alloc: Global, world: &World) -> Result<Vec<u8>, AllocError>
-    ensures { IfOk result (λ line. line.items ≡ left_answer world.now) }
+fn left(alloc: Global, world: &World) -> Result<LineAnswer, AllocError>
+    ensures { IfOk result (λ line. answer_text line ≡ left_answer world.now) }
 {
     let count = world.left();
     let text = format!(in alloc; "left {count}")?;
     text_line(alloc, &text)
 }
 
-fn table(alloc: Global, stage: Stage, bytes: &[u8]) -> Result<(Vec<u8>, Stage), AllocError>
+fn table(alloc: Global, stage: Stage, bytes: &[u8]) -> Result<(LineAnswer, Stage), AllocError>
     ensures { IfOk result (λ given. with_line_end (table_answer stage bytes.now)
-        ≡ (given.0.items, given.1)) }
+        ≡ (answer_text given.0, given.1)) }
 {
     match stage {
         Stage::Running(world) => Ok((text_line(alloc, "refused Line")?, Stage::Running(world))),
@@ -176,10 +176,10 @@ fn add_table(
     alloc: Global,
     mut schema: Schema,
     shape: Shape,
-) -> Result<(Vec<u8>, Stage), AllocError>
+) -> Result<(LineAnswer, Stage), AllocError>
     ensures { IfOk result (λ given.
         with_line_end (table_added schema shape (table_refusal schema shape))
-        ≡ (given.0.items, given.1)) }
+        ≡ (answer_text given.0, given.1)) }
 {
     let text = match schema.add(shape) {
         Ok(()) => "ok",

@@ -1,6 +1,6 @@
 //! Runs a script from a reader to a writer.
 
-ghost use Rattle.std.specs.Prelude.{◌≡◌, ◌+◌, ◌-◌, ◌<◌, ◌^◌, ◌∷◌, [], ℕ, List, length, take};
+ghost use Rattle.std.specs.Prelude.{◌≡◌, ◌+◌, ◌<◌, ◌^◌, ◌∷◌, [], ℕ, List, length};
 ghost use Rattle.std.specs.Prelude.{false, vec_len, Ok, Err, OnOk, IfErr, IfOk};
 ghost use Rattle.std.specs.Io.KnownBytes.{Appends};
 ghost use Rattle.rb_script.specs.declared.lines.Stage.TheVariants.{Tables};
@@ -10,12 +10,12 @@ ghost use Rattle.rb_script.specs.Answering.{numbered_answer, stops_after};
 ghost use Rattle.rb_script.specs.Feeding.{AreFed, StopsIn, fed_lines, line_at};
 ghost use Rattle.rb_script.specs.Ends.{ScriptEnds};
 
-use crate::answering::{Answering, RefusedLine};
+use crate::answering::Answering;
 use crate::fault::ScriptFault;
 use crate::lines::{MOST_OF_LINE, Stage, answer};
-use crate::output::{hand_on, refuses, write_answer};
+use crate::output::{hand_on, refused, refuses, write_answer};
 use crate::streams::read_some;
-use cs_model::{Schema, Seq};
+use cs_model::Schema;
 use rb_core::Config;
 use std::alloc::{AllocError, Global};
 use std::io::{Read, Write};
@@ -195,10 +195,10 @@ fn answer_line<W: Write>(
         number,
         mut line,
     } = place;
-    let (text, stage) = answer(alloc, config, stage, &line)?;
-    write_answer(alloc, how, number, &text, writer)?;
-    if how.strict && refuses(&text) {
-        return Err(ScriptFault::Refused(refused(number, line, text)));
+    let (given, stage) = answer(alloc, config, stage, &line)?;
+    write_answer(alloc, how, number, &given, writer)?;
+    if how.strict && refuses(&given) {
+        return Err(ScriptFault::Refused(refused(number, line, given)));
     }
     line.clear();
     Ok(Place {
@@ -206,21 +206,4 @@ fn answer_line<W: Write>(
         number: number + 1,
         line,
     })
-}
-
-// the line with its answer, without the answer's line end
-fn refused(number: u64, line: Vec<u8>, answer: Vec<u8>) -> RefusedLine
-    ensures { result ≡ record {
-      number = number;
-      line = line.items;
-      answer = take (vec_len answer - 1) answer.items;
-    } }
-{
-    let mut answer = answer;
-    answer.pop();
-    RefusedLine {
-        number,
-        line: Seq::from_vec(line),
-        answer: Seq::from_vec(answer),
-    }
 }

@@ -1,9 +1,11 @@
 //! Reads and writes that retry after an interruption.
 
-ghost use Rattle.std.specs.Prelude.{◌≡◌, ◌<◌, ◌≤◌, ℕ, List, length, take, IfOk, OnOk, OnErr};
+ghost use Rattle.std.specs.Prelude.{◌≡◌, ◌<◌, ◌≤◌, ℕ, List, length, take, IfErr, IfOk, OnOk, OnErr};
 ghost use Rattle.std.specs.Io.KnownBytes.{Appends, Consumes, Keeps, IsAtEnd};
+ghost use Rattle.rb_script.specs.Ends.{IsOfAnswers};
 ghost use Rattle.rb_script.specs.Streams.{AppendsFront};
 
+use crate::fault::ScriptFault;
 use std::io;
 use std::io::{ErrorKind, Read, Write};
 
@@ -43,6 +45,19 @@ pub fn write_whole<W: Write>(writer: &mut W, bytes: &[u8]) -> io::Result<()>
         at += write_some(writer, &bytes[at..])?;
     }
     Ok(())
+}
+
+/// Writes all bytes of an answer. An `Err` has written a prefix of them.
+pub fn write_text<W: Write>(writer: &mut W, text: &[u8]) -> Result<(), ScriptFault>
+    ensures ok { OnOk result (Appends (W.contents writer.old) (W.contents writer.new) text.now) }
+    ensures err { OnErr result (AppendsFront (W.contents writer.old) (W.contents writer.new)
+        text.now) }
+    ensures faults { IfErr result IsOfAnswers }
+{
+    match write_whole(writer, text) {
+        Ok(()) => Ok(()),
+        Err(why) => Err(ScriptFault::Write(why)),
+    }
 }
 
 /// Flushes the writer. Retries if it is interrupted. An `Err` may have flushed a part.

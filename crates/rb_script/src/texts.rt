@@ -1,15 +1,13 @@
 //! Formats entries and rows as text.
 
-ghost use Rattle.std.specs.Prelude.{◌≡◌, ◌++◌, IfOk, OnOk, Some, string_bytes};
+ghost use Rattle.std.specs.Prelude.{◌≡◌, ◌++◌, IfOk, OnOk, string_bytes};
 ghost use Rattle.hex.specs.Hex.{encode_lower};
 ghost use Rattle.cs_apply.specs.Seen.{listed};
 ghost use Rattle.cs_model.specs.Seen.{field_seen};
 ghost use Rattle.rb_script.specs.Texts.{origin_text, bytes_word, entry_text, field_text, row_text};
-ghost use Rattle.rb_script.specs.Lines.{found_changeset};
 ghost use Rattle.rb_script.specs.Texts.{rows_text};
 
-use cs_model::{Changeset, FieldRef, Origin, Row, RowKey, field_push};
-use cs_write::write;
+use cs_model::{FieldRef, Origin, Row, RowKey, field_push};
 use rb_core::Entry;
 use std::alloc::{AllocError, Global};
 
@@ -37,16 +35,6 @@ fn text_of_origin(alloc: Global, origin: Origin) -> Result<String, AllocError>
         Origin::Sent => format!(in alloc; "s"),
         Origin::Withdraws(n) => format!(in alloc; "w{n}"),
     }
-}
-
-/// The text of a changeset, without a line end. Returns `AllocError` if memory runs out.
-pub fn text_of_changeset(alloc: Global, changeset: &Changeset) -> Result<Vec<u8>, AllocError>
-    ensures { IfOk result (λ text. text.items ≡ found_changeset (Some changeset.now)) }
-{
-    let mut text = Vec::new(alloc);
-    text.extend_from_slice(b"text ")?;
-    add_word(alloc, &mut text, &write(alloc, changeset)?)?;
-    Ok(text)
 }
 
 // Appends bytes as a word.

@@ -1,16 +1,14 @@
 -- The cells of a sequence, and the tokens that show what is in one.
 use Rattle.std.specs.Prelude.{◌≡◌, ℕ, suc, ◌≤◌, List, [], ◌∷◌}
-use Rattle.boxcar.specs.Slot.{Named}
+use Rattle.std.specs.declared.alloc.AllocFailed.{AllocFailed}
 use Rattle.rb_sequence.specs.Entry.{Entry}
 use Rattle.rb_sequence.specs.Segments.{IsLocated, id_at}
-use Rattle.rb_sequence.specs.declared.cells.ReadyError.{ReadyError}
-use Rattle.rb_sequence.specs.declared.cells.ReadyError.TheVariants.{Memory, Occupied}
 
--- A sequence: its capacity, the slots of its segments, and its closing cell. What is in the cells
--- isn't part of it: that is shown by tokens.
+-- A sequence: its capacity, and the names of its segments' slots and of its closing cell. What is
+-- in the cells isn't part of it: that is shown by tokens.
 pub record Cells : Type 0 where
   pub capacity : ℕ
-  pub segments : List Named
+  pub segments : List ℕ
   pub closing : ℕ
 
 -- no sequence's
@@ -67,6 +65,5 @@ AreInCells cells n [] = Unit {0}
 AreInCells cells n (t ∷ rest) = IsTokenOf cells t × (t.number ≡ n) × AreInCells cells (suc n) rest
 
 -- the entry comes back
-abbrev pub HandsBack : Entry → ReadyError → Type 0
-HandsBack entry (Memory back) = back ≡ entry
-HandsBack entry (Occupied back) = back ≡ entry
+abbrev pub HandsBack : Entry → AllocFailed Entry → Type 0
+HandsBack entry failed = failed.value ≡ entry

@@ -1,7 +1,7 @@
 -- The items of one publisher among those of all, and numbers that count up.
 use Rattle.std.specs.Prelude.{◌≡◌, ℕ, suc, List, [], ◌∷◌, ◌==◌}
 use Rattle.std.specs.List.{filter}
-use Rattle.rb_sequence.specs.declared.item.Item.{Item}
+use Rattle.rb_sequence.specs.Item.{Item}
 
 -- the items of a publisher, in order
 abbrev pub own_of : ℕ → List Item → List Item

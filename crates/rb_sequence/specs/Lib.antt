@@ -1,4 +1,5 @@
 pub mod Segments
+pub mod Item
 pub mod Entry
 pub mod Items
 pub mod Cells

@@ -2,66 +2,43 @@
 
 ghost use Rattle.std.specs.Prelude.{◌≡◌, ◌≤◌, ◌<◌, IfErr, IfOk, IfSome, length};
 ghost use Rattle.rb_sequence.specs.Cells.{HandsBack, HasCell, IsLastToken, IsReadyFor, IsTokenOf};
-ghost use Rattle.rb_sequence.specs.Segments.{AreSegments, id_at};
+ghost use Rattle.rb_sequence.specs.Segments.{IsLocated, id_at};
+ghost use Rattle.once_cell.specs.Once.{cell_name};
 
 use crate::entry::Entry;
 use crate::ready::Ready;
-use crate::segment::{Cell, HoldsAny, HoldsItsCells, Itself, SEGMENT, locate, make_cells};
+use crate::segment::{SEGMENT, Segment, empty_cells, locate};
 use crate::told::{Told, ToldLast};
-use boxcar::slot::{OnceSlot, Written};
-use boxcar::tag::Tag;
-use std::alloc::{AllocError, Global};
+use crate::written::Written;
+use once_cell::race::OnceBox;
+use std::alloc::{AllocError, AllocFailed, Global};
 use std::marker::Model;
-
-/// Why an entry isn't ready for its cell. It hands the entry back.
-#[derive(Debug, Drop)]
-pub enum ReadyError {
-    /// Memory ran out.
-    Memory(Entry),
-    /// Another thread makes the segment of the cell at this moment.
-    Occupied(Entry),
-}
 
 /// The cells: a segment for every 65,536 numbers, each made when it is first wanted, and a closing
 /// cell.
 #[derive(Drop)]
 pub(crate) struct Cells {
     capacity: u64,
-    segments: Vec<OnceSlot<Vec<Cell>, HoldsItsCells>>,
-    closing: OnceSlot<u64, HoldsAny>,
+    segments: Vec<OnceBox<Segment>>,
+    closing: OnceBox<u64>,
 }
 
 impl Model for Cells {
     ghost use Rattle.std.specs.Prelude.{◌≤◌, ◌*◌, length};
     ghost use Rattle.rb_sequence.specs.Cells.{Cells};
-    ghost use Rattle.rb_sequence.specs.Segments.{AreSegments};
+    ghost use Rattle.rb_sequence.specs.Segments.{cell_names};
+    ghost use Rattle.once_cell.specs.Once.{cell_name};
 
     ghost Value = { Cells };
 
     ghost view = { λ s. record {
       capacity = s.capacity;
-      segments = s.segments.items;
-      closing = s.closing.id;
+      segments = cell_names s.segments.items;
+      closing = cell_name s.closing;
     } };
 
     ghost invariant = { λ s. (s.capacity ≤ 65536 * length s.segments.items)
-        × (length s.segments.items ≤ 65536) × AreSegments s.segments.items };
-}
-
-// slots for segments, of which none is made
-fn empty_segments(
-    alloc: Global,
-    count: usize,
-) -> Result<Vec<OnceSlot<Vec<Cell>, HoldsItsCells>>, AllocError>
-    ensures { IfOk result (λ v. (length v.items ≡ count) × AreSegments v.items) }
-{
-    let mut segments = Vec::with_capacity(alloc, count)?;
-    let mut place: usize = 0;
-    while place < count {
-        segments.push_reserved(OnceSlot::new(&Tag::of::<u64, Itself>(&(place as u64))));
-        place += 1;
-    }
-    Ok(segments)
+        × (length s.segments.items ≤ 65536) };
 }
 
 impl Cells {
@@ -74,8 +51,8 @@ impl Cells {
         let count = (capacity / SEGMENT as u64 + 1) as usize;
         Ok(Cells {
             capacity,
-            segments: empty_segments(alloc, count)?,
-            closing: OnceSlot::new(&Tag::empty()),
+            segments: empty_cells(alloc, count)?,
+            closing: OnceBox::new(alloc),
         })
     }
 
@@ -86,34 +63,56 @@ impl Cells {
         self.capacity
     }
 
-    /// The entry with this number, if its cell is set.
-    pub(crate) fn get(&self, number: u64) -> Option<&Entry>
-        ensures { IfSome result (λ entry. entry.now.number ≡ number) }
+    // Where the cell of a number stands, if there is one: its segment, and its place there.
+    fn find(&self, number: u64) -> Option<(usize, usize)>
+        ensures { IfSome result (λ at. HasCell self.now number × IsLocated number at.0 at.1
+            × (at.0 < length self.now.segments)) }
     {
-        if number == 0 {
+        if number == 0 || number > self.capacity {
             return None;
         }
-        let (segment, place) = locate(number);
-        let cells = self.segments.get(segment)?.get()?;
-        Some(cells.get(place)?.get()?.as_ref())
+        Some(locate(number))
+    }
+
+    // The slot of a segment.
+    fn slot(&self, segment: usize) -> &OnceBox<Segment>
+        requires { segment < length self.now.segments }
+        ensures { id_at self.now.segments segment ≡ cell_name result.now }
+    {
+        &self.segments[segment]
+    }
+
+    /// The entry with this number, if there is a cell for it and it is set.
+    pub(crate) fn get(&self, number: u64) -> Option<&Entry>
+        ensures { IfSome result (λ entry. HasCell self.now number × (entry.now.number ≡ number)) }
+    {
+        let (segment, place) = self.find(number)?;
+        let entry = self.slot(segment).get()?.cell(place).get()?;
+        // `fill` puts only an entry of this number there, but a `OnceBox` has no rule that says so
+        if entry.number() == number {
+            Some(entry)
+        } else {
+            None
+        }
     }
 
     /// A token of the cell with this number, if it is set.
     pub(crate) fn tell(&self, number: u64) -> Option<Told>
         ensures { IfSome result (λ told. IsTokenOf self.now told × (told.number ≡ number)) }
     {
-        if number == 0 || number > self.capacity {
+        let (segment, place) = self.find(number)?;
+        let slot = self.slot(segment);
+        let laid = Written::witness(slot)?;
+        let cell = laid.value(slot).cell(place);
+        let written = Written::witness(cell)?;
+        // as in `get`
+        if written.value(cell).number() != number {
             return None;
         }
-        let (segment, place) = locate(number);
-        let laid = self.segments[segment].witness()?;
-        let cells = self.segments[segment].value(&laid);
-        let cell = cells[place].witness()?;
-        cells[place].value(&cell);
         Some(Told {
             number,
             segment: laid,
-            cell,
+            cell: written,
         })
     }
 
@@ -122,35 +121,39 @@ impl Cells {
         requires { IsTokenOf self.now told.now }
         ensures { result.now ≡ told.now.entry }
     {
+        // for its invariant: there is a segment for each number
+        let _segments = &self.segments;
         let (segment, place) = locate(told.number);
-        let cells = self.segments[segment].value(&told.segment);
-        cells[place].value(&told.cell).as_ref()
+        let cells = told.segment.value(self.slot(segment));
+        told.cell.value(cells.cell(place))
     }
 
     /// A token of the closing cell, if it is set.
     pub(crate) fn closing(&self) -> Option<ToldLast>
         ensures { IfSome result (λ told. IsLastToken self.now told) }
     {
-        let written = self.closing.witness()?;
-        let last = *self.closing.value(&written);
+        let written = Written::witness(&self.closing)?;
+        let last = *written.value(&self.closing);
         Some(ToldLast { last, written })
     }
 
-    // A token of a segment, which is made if it isn't there. `None` if another thread makes it.
-    fn lay(&self, alloc: Global, segment: usize) -> Result<Option<Written<Vec<Cell>>>, AllocError>
+    // A token of a segment, which is made if it isn't there. If two threads make it at once, the
+    // segment that comes first counts, and the other is dropped.
+    fn lay(&self, alloc: Global, segment: usize) -> Result<Written<Segment>, AllocError>
         requires { segment < length self.now.segments }
-        ensures { IfOk result (λ found. IfSome found
-            (λ laid. laid.of ≡ id_at self.now.segments segment)) }
+        ensures { IfOk result (λ laid. laid.cell ≡ id_at self.now.segments segment) }
     {
-        if let Some(laid) = self.segments[segment].witness() {
-            return Ok(Some(laid));
+        let slot = self.slot(segment);
+        if let Some(laid) = Written::witness(slot) {
+            return Ok(laid);
         }
-        let made = make_cells(alloc, segment as u64)?;
-        Ok(self.segments[segment].set_written(made).ok())
+        let made = Box::new(alloc, Segment::new(alloc)?)?;
+        Ok(Written::offer(slot, made))
     }
 
-    /// Makes what an entry needs in its cell: the segment, if it isn't there, and a box.
-    pub(crate) fn ready(&self, alloc: Global, entry: Entry) -> Result<Ready, ReadyError>
+    /// Makes what an entry needs in its cell: the segment, if it isn't there, and a box. Hands the
+    /// entry back if memory runs out.
+    pub(crate) fn ready(&self, alloc: Global, entry: Entry) -> Result<Ready, AllocFailed<Entry>>
         requires { HasCell self.now entry.number }
         ensures ok { IfOk result (λ ready. IsReadyFor self.now ready × (ready.entry ≡ entry)) }
         ensures err { IfErr result (HandsBack entry) }
@@ -159,10 +162,8 @@ impl Cells {
         let _segments = &self.segments;
         let number = entry.number();
         let (segment, _) = locate(number);
-        let laid = match self.lay(alloc, segment) {
-            Ok(Some(laid)) => laid,
-            Ok(None) => return Err(ReadyError::Occupied(entry)),
-            Err(_) => return Err(ReadyError::Memory(entry)),
+        let Ok(laid) = self.lay(alloc, segment) else {
+            return Err(AllocFailed { value: entry });
         };
         match Box::new(alloc, entry) {
             Ok(entry) => Ok(Ready {
@@ -170,7 +171,7 @@ impl Cells {
                 segment: laid,
                 entry,
             }),
-            Err(failed) => Err(ReadyError::Memory(failed.value)),
+            Err(failed) => Err(failed),
         }
     }
 
@@ -180,14 +181,16 @@ impl Cells {
         ensures ok { IfOk result (λ told. IsTokenOf self.now told × (told.entry ≡ ready.entry)) }
         ensures err { IfErr result (λ entry. entry ≡ ready.entry) }
     {
+        // for its invariant: there is a segment for each number
+        let _segments = &self.segments;
         let Ready {
             number,
             segment: laid,
             entry,
         } = ready;
         let (segment, place) = locate(number);
-        let cells = self.segments[segment].value(&laid);
-        match cells[place].set_written(entry) {
+        let cells = laid.value(self.slot(segment));
+        match Written::set(cells.cell(place), entry) {
             Ok(cell) => Ok(Told {
                 number,
                 segment: laid,
@@ -197,12 +200,18 @@ impl Cells {
         }
     }
 
-    /// Sets the closing cell. Returns the number if the cell is set.
-    pub(crate) fn fill_closing(&self, last: u64) -> Result<ToldLast, u64>
-        ensures ok { IfOk result (λ told. IsLastToken self.now told × (told.last ≡ last)) }
-        ensures err { IfErr result (λ number. number ≡ last) }
+    /// Sets the closing cell. Hands the box back if the cell is set.
+    pub(crate) fn fill_closing(&self, last: Box<u64>) -> Result<ToldLast, Box<u64>>
+        ensures ok { IfOk result (λ told. IsLastToken self.now told × (told.last ≡ last.value)) }
+        ensures err { IfErr result (λ back. back.value ≡ last.value) }
     {
-        let written = self.closing.set_written(last)?;
-        Ok(ToldLast { last, written })
+        let number = *last;
+        match Written::set(&self.closing, last) {
+            Ok(written) => Ok(ToldLast {
+                last: number,
+                written,
+            }),
+            Err(back) => Err(back),
+        }
     }
 }

@@ -12,12 +12,13 @@ mod ready;
 mod segment;
 mod sequence;
 mod told;
+mod written;
 
-pub use cells::ReadyError;
 pub use entry::Entry;
 pub use form::FormBeside;
 pub use item::Item;
 pub use ready::Ready;
-pub use segment::{Cell, HoldsAny, HoldsItsCells, HoldsItsNumber};
+pub use segment::Segment;
 pub use sequence::{Filler, Preparer, Sequence};
 pub use told::{Told, ToldLast};
+pub use written::Written;

@@ -3,8 +3,8 @@
 ghost use Rattle.std.specs.Prelude.{◌≡◌};
 
 use crate::entry::Entry;
-use crate::segment::Cell;
-use boxcar::slot::Written;
+use crate::segment::Segment;
+use crate::written::Written;
 use std::marker::Model;
 
 /// An entry that is ready for its cell: its segment is made, and it has a box. Filling the cell
@@ -12,7 +12,7 @@ use std::marker::Model;
 #[derive(Drop)]
 pub struct Ready {
     pub(crate) number: u64,
-    pub(crate) segment: Written<Vec<Cell>>,
+    pub(crate) segment: Written<Segment>,
     pub(crate) entry: Box<Entry>,
 }
 
@@ -22,7 +22,7 @@ impl Model for Ready {
 
     ghost Value = { ReadyEntry };
 
-    ghost view = { λ r. record { entry = r.entry.value; segment = r.segment.of } };
+    ghost view = { λ r. record { entry = r.entry.value; segment = r.segment.cell } };
 
     ghost invariant = { λ r. (1 ≤ r.number) × (r.entry.value.number ≡ r.number) };
 }

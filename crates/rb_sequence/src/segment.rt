@@ -1,57 +1,32 @@
 //! Segments: 65,536 write-once cells each, of numbers that follow one another.
 
-ghost use Rattle.std.specs.Prelude.{◌≡◌, ◌≤◌, ◌<◌, IfOk};
-ghost use Rattle.rb_sequence.specs.Segments.{AreCells, IsLocated};
+ghost use Rattle.std.specs.Prelude.{◌≡◌, ◌≤◌, ◌<◌, IfOk, length};
+ghost use Rattle.once_cell.specs.Once.{cell_name};
+ghost use Rattle.rb_sequence.specs.Segments.{IsLocated, id_at};
 
 use crate::entry::Entry;
-use boxcar::slot::{OnceSlot, SlotRule};
-use boxcar::tag::{Names, Tag};
+use once_cell::race::OnceBox;
 use std::alloc::{AllocError, Global};
+use std::marker::Model;
 
 /// How many cells a segment has.
 pub(crate) const SEGMENT: usize = 65_536;
 
-/// The rule of a cell: it holds an entry with the number that its tag has.
-#[derive(Debug)]
-pub struct HoldsItsNumber;
-
-impl SlotRule<Box<Entry>> for HoldsItsNumber {
-    ghost use Rattle.std.specs.Prelude.{◌≡◌};
-    ghost use Rattle.rb_sequence.specs.Segments.{tag_number};
-
-    ghost holds = { λ tag entry. entry.value.number ≡ tag_number tag };
+/// The cells of a segment, of eight bytes each. Contracts see their names.
+#[derive(Drop)]
+pub struct Segment {
+    cells: Vec<OnceBox<Entry>>,
 }
 
-/// A cell.
-pub type Cell = OnceSlot<Box<Entry>, HoldsItsNumber>;
+impl Model for Segment {
+    ghost use Rattle.std.specs.Prelude.{◌≡◌, ℕ, List, length};
+    ghost use Rattle.rb_sequence.specs.Segments.{cell_names};
 
-/// The rule of a segment: its cells have the numbers from its first one on.
-#[derive(Debug)]
-pub struct HoldsItsCells;
+    ghost Value = { List ℕ };
 
-impl SlotRule<Vec<Cell>> for HoldsItsCells {
-    ghost use Rattle.rb_sequence.specs.Segments.{AreCells, tag_number};
+    ghost view = { λ s. cell_names s.cells.items };
 
-    ghost holds = { λ tag cells. AreCells (tag_number tag) 65536 cells.items };
-}
-
-/// The rule of the closing cell: it may hold any number.
-#[derive(Debug)]
-pub struct HoldsAny;
-
-impl SlotRule<u64> for HoldsAny {
-    ghost use Rattle.std.specs.Prelude.{⊤};
-
-    ghost holds = { λ _ _. ⊤ };
-}
-
-// a tag of one number
-pub(crate) struct Itself;
-
-impl Names<u64> for Itself {
-    ghost use Rattle.std.specs.Prelude.{◌∷◌, []};
-
-    ghost numbers = { λ n. n ∷ [] };
+    ghost invariant = { λ s. length s.cells.items ≡ 65536 };
 }
 
 /// Where the cell of a number stands: its segment, and its place there.
@@ -63,17 +38,30 @@ pub(crate) fn locate(number: u64) -> (usize, usize)
     (index / SEGMENT, index % SEGMENT)
 }
 
-/// Makes the cells of a segment. Returns `AllocError` if memory runs out.
-pub(crate) fn make_cells(alloc: Global, segment: u64) -> Result<Vec<Cell>, AllocError>
-    requires { segment < 65536 }
-    ensures { IfOk result (λ cells. AreCells segment 65536 cells.items) }
+/// Cells that aren't set. Returns `AllocError` if memory runs out.
+pub(crate) fn empty_cells<T>(alloc: Global, count: usize) -> Result<Vec<OnceBox<T>>, AllocError>
+    ensures { IfOk result (λ v. length v.items ≡ count) }
 {
-    let mut cells = Vec::with_capacity(alloc, SEGMENT)?;
-    let mut place: usize = 0;
-    while place < SEGMENT {
-        let number = segment * 65_536 + place as u64 + 1;
-        cells.push_reserved(OnceSlot::new(&Tag::of::<u64, Itself>(&number)));
-        place += 1;
+    let mut cells = Vec::with_capacity(alloc, count)?;
+    while cells.len() < count {
+        cells.push_reserved(OnceBox::new(alloc));
     }
     Ok(cells)
+}
+
+impl Segment {
+    /// A segment whose cells aren't set. Returns `AllocError` if memory runs out.
+    pub(crate) fn new(alloc: Global) -> Result<Segment, AllocError> {
+        Ok(Segment {
+            cells: empty_cells(alloc, SEGMENT)?,
+        })
+    }
+
+    /// The cell at a place.
+    pub(crate) fn cell(&self, place: usize) -> &OnceBox<Entry>
+        requires { place < 65536 }
+        ensures { id_at self.now place ≡ cell_name result.now }
+    {
+        &self.cells[place]
+    }
 }

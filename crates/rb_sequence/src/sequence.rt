@@ -4,11 +4,11 @@
 ghost use Rattle.std.specs.Prelude.{◌≡◌, ◌≤◌, IfErr, IfOk, IfSome};
 ghost use Rattle.rb_sequence.specs.Cells.{HandsBack, HasCell, IsLastToken, IsReadyFor, IsTokenOf};
 
-use crate::cells::{Cells, ReadyError};
+use crate::cells::Cells;
 use crate::entry::Entry;
 use crate::ready::Ready;
 use crate::told::{Told, ToldLast};
-use std::alloc::{AllocError, Global};
+use std::alloc::{AllocError, AllocFailed, Global};
 use std::marker::Model;
 use std::sync::Arc;
 
@@ -52,6 +52,8 @@ impl Model for Preparer {
 #[derive(Drop)]
 pub struct Filler {
     cells: Arc<Cells>,
+    // room for the closing number, until it is used
+    room: Option<Box<u64>>,
 }
 
 impl Model for Filler {
@@ -75,10 +77,11 @@ impl Sequence {
         let cells = Arc::new(alloc, Cells::new(alloc, capacity)?)?;
         let prepares = Arc::try_clone(&cells)?;
         let fills = Arc::try_clone(&cells)?;
+        let room = Some(Box::new(alloc, 0)?);
         Ok((
             Sequence { cells },
             Preparer { cells: prepares },
-            Filler { cells: fills },
+            Filler { cells: fills, room },
         ))
     }
 
@@ -89,14 +92,16 @@ impl Sequence {
         self.cells.capacity()
     }
 
-    /// The entry with this number, if its cell is set.
+    /// The entry with this number, if its cell is set. `None` for a number outside 1 to the
+    /// capacity.
     pub fn get(&self, number: u64) -> Option<&Entry>
-        ensures { IfSome result (λ entry. entry.now.number ≡ number) }
+        ensures { IfSome result (λ entry. HasCell self.now number × (entry.now.number ≡ number)) }
     {
         self.cells.get(number)
     }
 
-    /// A token of the cell with this number, if it is set.
+    /// A token of the cell with this number, if it is set. `None` for a number outside 1 to the
+    /// capacity.
     pub fn tell(&self, number: u64) -> Option<Told>
         ensures { IfSome result (λ told. IsTokenOf self.now told × (told.number ≡ number)) }
     {
@@ -121,11 +126,11 @@ impl Sequence {
 
 impl Preparer {
     /// Makes an entry ready for its cell: allocates the segment, if it isn't there, and a box for
-    /// the entry. Changes nothing that a reader sees.
+    /// the entry. Changes nothing that a reader sees. If two threads make one segment at once, the
+    /// first one's stays, and both use it.
     ///
-    /// Returns `Memory` if memory runs out, and `Occupied` if another thread makes the segment at
-    /// this moment. Both hand the entry back.
-    pub fn ready(&self, alloc: Global, entry: Entry) -> Result<Ready, ReadyError>
+    /// Hands the entry back if memory runs out.
+    pub fn ready(&self, alloc: Global, entry: Entry) -> Result<Ready, AllocFailed<Entry>>
         requires { HasCell self.now entry.number }
         ensures ok { IfOk result (λ ready. IsReadyFor self.now ready × (ready.entry ≡ entry)) }
         ensures err { IfErr result (HandsBack entry) }
@@ -157,6 +162,13 @@ impl Filler {
         ensures err { IfErr result (λ number. number ≡ last) }
         ensures same { self.new ≡ self.old }
     {
-        self.cells.fill_closing(last)
+        let Some(mut room) = self.room.take() else {
+            return Err(last);
+        };
+        *room = last;
+        match self.cells.fill_closing(room) {
+            Ok(told) => Ok(told),
+            Err(_) => Err(last),
+        }
     }
 }

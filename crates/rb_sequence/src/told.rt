@@ -4,8 +4,8 @@ ghost use Rattle.std.specs.Prelude.{◌≡◌};
 ghost use Rattle.rb_sequence.specs.Cells.{AreOfOneCell};
 
 use crate::entry::Entry;
-use crate::segment::{Cell, locate};
-use boxcar::slot::Written;
+use crate::segment::{Segment, locate};
+use crate::written::Written;
 use std::fmt;
 use std::marker::Model;
 
@@ -14,8 +14,8 @@ use std::marker::Model;
 #[derive(Drop)]
 pub struct Told {
     pub(crate) number: u64,
-    pub(crate) segment: Written<Vec<Cell>>,
-    pub(crate) cell: Written<Box<Entry>>,
+    pub(crate) segment: Written<Segment>,
+    pub(crate) cell: Written<Entry>,
 }
 
 impl Model for Told {
@@ -27,13 +27,13 @@ impl Model for Told {
 
     ghost view = { λ t. record {
       number = t.number;
-      entry = t.cell.value.value;
-      segment = t.segment.of;
-      cell = t.cell.of;
+      entry = t.cell.value;
+      segment = t.segment.cell;
+      cell = t.cell.cell;
     } };
 
-    ghost invariant = { λ t. (1 ≤ t.number) × (t.cell.value.value.number ≡ t.number)
-        × ((k j : ℕ) → IsLocated t.number k j → t.cell.of ≡ id_at t.segment.value.items j) };
+    ghost invariant = { λ t. (1 ≤ t.number) × (t.cell.value.number ≡ t.number)
+        × ((k j : ℕ) → IsLocated t.number k j → t.cell.cell ≡ id_at t.segment.value j) };
 }
 
 impl Told {
@@ -80,7 +80,7 @@ impl Model for ToldLast {
 
     ghost Value = { LastToken };
 
-    ghost view = { λ t. record { last = t.last; cell = t.written.of } };
+    ghost view = { λ t. record { last = t.last; cell = t.written.cell } };
 
     ghost invariant = { λ t. t.written.value ≡ t.last };
 }

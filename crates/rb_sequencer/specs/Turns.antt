@@ -4,7 +4,7 @@ use Rattle.std.specs.Prelude.{None}
 use Rattle.std.specs.Prelude.{slice_get, ◌⊎◌}
 use Rattle.rb_desk.specs.Limits.{Limits}
 use Rattle.rb_sequence.specs.Cells.{Cells, CellToken, IsTokenOf}
-use Rattle.rb_sequence.specs.declared.item.Item.{Item}
+use Rattle.rb_sequence.specs.Item.{Item}
 use Rattle.rb_broker.specs.Placing.{DeskPlaces, DeskRefuses, ShowsWhy}
 use Rattle.rb_sequencer.specs.declared.turn.Turn.{Turn}
 use Rattle.rb_sequencer.specs.declared.turn.Turn.TheVariants.{Placed, Idle, Refused}

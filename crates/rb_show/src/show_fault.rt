@@ -13,10 +13,10 @@ use thiserror::Error;
 #[derive(Debug, Drop, Error)]
 pub enum ShowFault {
     /// The reader failed.
-    #[error("read fault: {0}")]
+    #[error("read fault")]
     Read(io::Error),
     /// The writer failed, or accepted no byte.
-    #[error("write fault: {0}")]
+    #[error("write fault")]
     Write(io::Error),
     /// The line with this number, from 1, begins with `row` and has no row of a table.
     #[error("line {0}: not a row of a table before it (the script's table lines go first)")]

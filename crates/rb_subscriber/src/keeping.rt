@@ -85,6 +85,8 @@ impl Endpoint {
             (ConflictsSingly self.old.tables (E.entries entries.now)) }
         ensures fit { IfStoreFailed result (λ plan.
             RowsFit self.old.tables (planned_changes plan)) }
+        ensures distinct { IfStoreFailed result (λ plan.
+            IsDistinct same_key (keys_of (planned_changes plan))) }
         ensures pending { IfStoreFailed result (λ plan.
             HasSingleTables self.old.tables (E.entries entries.now)
             (changed_tables self.old.tables (planned_changes plan))) }

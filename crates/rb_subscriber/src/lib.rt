@@ -7,6 +7,7 @@
 
 mod applier;
 mod apply;
+mod beginning;
 mod brought;
 mod durable;
 mod endpoint;

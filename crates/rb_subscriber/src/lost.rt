@@ -1,6 +1,6 @@
 //! `Lost`: a subscription that fell, until it is resumed.
 
-ghost use Rattle.std.specs.{Prelude.{◌≡◌, ◌<◌, IsSome, IfOk, OnErr}, Bool.{Decides}, Coded.{codes}};
+ghost use Rattle.std.specs.{Prelude.{◌≡◌, ◌<◌, IsSome}, Bool.{Decides}, Coded.{codes}};
 ghost use Rattle.cs_apply.specs.State.{state_code};
 ghost use Rattle.rb_subscriber.specs.{
   Lost.{FitsLost, cursor_after, gone_on},
@@ -10,7 +10,6 @@ ghost use Rattle.rb_subscriber.specs.{
 use crate::step_ledger::StepLedger;
 use crate::subscription::Subscription;
 use cs_apply::Tables;
-use std::alloc::{AllocError, Global};
 use std::marker::Model;
 
 /// A subscription that fell: its durable store failed while it accepted a delivery. The store has
@@ -72,21 +71,16 @@ impl<L: StepLedger> Lost<L> {
     }
 
     /// Whether it can be resumed with these tables and this cursor: whether they are those from
-    /// before the delivery, or those after it. For the second it makes a copy of its own tables,
-    /// and returns `AllocError` if memory runs out.
-    pub fn fits(&self, alloc: Global, tables: &Tables, cursor: u64) -> Result<bool, AllocError>
-        ensures fits { IfOk result (λ fits. Decides fits (FitsLost self.now tables.now cursor)) }
-        ensures memory { OnErr result (cursor ≡ cursor_after self.now) }
+    /// before the delivery, or those after it. Needs no memory: for the second it compares these
+    /// tables with its own, row by row, and with the changes that are pending.
+    pub fn fits(&self, tables: &Tables, cursor: u64) -> bool
+        ensures { Decides result (FitsLost self.now tables.now cursor) }
     {
         let (before, after) = (self.before(), self.after());
         if cursor == before {
-            return Ok(tables.is_same(self.subscription.tables()));
+            return tables.is_same(self.subscription.tables());
         }
-        if cursor != after {
-            return Ok(false);
-        }
-        let changed = self.subscription.tables_after(alloc)?;
-        Ok(tables.is_same(&changed))
+        cursor == after && self.subscription.is_after(tables)
     }
 
     /// The subscription, with these tables, its tokens up to this cursor, and this link.

@@ -1,8 +1,8 @@
 //! What is pending over a subscription that fell: what its durable store may have beyond it.
 
-ghost use Rattle.std.specs.Prelude.{◌≡◌, ◌≤◌, ◌+◌, ◌++◌, ◌<◌, length, IfOk, IfSome, IsSome};
+ghost use Rattle.std.specs.Prelude.{◌≡◌, ◌≤◌, ◌+◌, ◌++◌, ◌<◌, length, IfSome, IsSome};
 ghost use Rattle.std.specs.Prelude.{false, if◌then◌else◌};
-ghost use Rattle.std.specs.Vec.{vec_capacity, vec_len};
+ghost use Rattle.std.specs.{Bool.{Decides}, Vec.{vec_capacity, vec_len}};
 ghost use Rattle.rb_subscriber.specs.Lost.{FitsLost, cursor_after, pending_tokens, gone_on};
 ghost use Rattle.rb_subscriber.specs.Lost.{tables_after};
 ghost use Rattle.rb_subscriber.specs.Subscription.{cursor_of};
@@ -12,9 +12,8 @@ use crate::shown::add;
 use crate::step_ledger::StepLedger;
 use crate::subscription::Subscription;
 use cs_apply::Tables;
-use par_apply::{RowPlan, changed_copy};
+use par_apply::RowPlan;
 use rb_sequence::Told;
-use std::alloc::{AllocError, Global};
 use std::marker::Model;
 
 /// The tokens of the entries of a delivery, and the changes of rows that they make.
@@ -69,16 +68,15 @@ impl<L: StepLedger> Subscription<L> {
         self.end.cursor() + count(&self.pending) as u64
     }
 
-    /// A copy of its tables as they are after what is pending. Returns `AllocError` if memory runs
-    /// out.
-    pub(crate) fn tables_after(&self, alloc: Global) -> Result<Tables, AllocError>
+    /// Whether these tables are its own after what is pending.
+    pub(crate) fn is_after(&self, tables: &Tables) -> bool
         requires { IsSome self.now.pending }
-        ensures { IfOk result (λ copy. copy ≡ tables_after self.now) }
+        ensures { Decides result (tables.now ≡ tables_after self.now) }
     {
         let Some(pending) = &self.pending else {
             unreachable!();
         };
-        changed_copy(alloc, self.end.tables(), &pending.plan)
+        pending.plan.leads(self.end.tables(), tables)
     }
 
     /// The subscription that goes on with these tables after this cursor, under this link. What was

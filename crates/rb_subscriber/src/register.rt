@@ -6,6 +6,7 @@ ghost use Rattle.rb_subscriber.specs.Lost.{FitsLost, gone_on};
 ghost use Rattle.rb_subscriber.specs.Register.{AuditorState, RegisterState, all_steps};
 ghost use Rattle.rb_subscriber.specs.Subscription.{new_subscription};
 
+use crate::beginning::Beginning;
 use crate::endpoint::Endpoint;
 use crate::lost::Lost;
 use crate::step_ledger::StepLedger;
@@ -95,7 +96,7 @@ impl<L: StepLedger> Register<L> {
     }
 
     /// Makes a subscription that has accepted nothing: under the desk's number and link, after
-    /// number `start`, with these tables. `base` is a copy of them, which stays as it is.
+    /// number `start`, with these tables.
     pub fn subscribe(
         &mut self,
         alloc: Global,
@@ -103,14 +104,13 @@ impl<L: StepLedger> Register<L> {
         link: u64,
         start: u64,
         tables: Tables,
-        base: Tables,
     ) -> Subscription<L>
-        requires room { (self.old.made < 1024) × (L.all ≡ 1024) }
-        requires base { base ≡ tables }
+        requires { (self.old.made < 1024) × (L.all ≡ 1024) }
         ensures new { result ≡ new_subscription sub start link tables }
         ensures made { self.new ≡ record self.old { made = self.old.made + 1 } }
     {
         let share = self.rest.split_off(1, 0);
+        let base = Beginning::of(&tables);
         self.made += 1;
         Subscription {
             sub,

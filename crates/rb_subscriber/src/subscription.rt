@@ -16,6 +16,7 @@ ghost use Rattle.rb_subscriber.specs.{
 };
 
 use crate::applier::Workers;
+use crate::beginning::Beginning;
 use crate::endpoint::Endpoint;
 use crate::pending::Pending;
 use crate::refusal::{AcceptError, AcceptRefusal, SubscriptionError};
@@ -39,7 +40,8 @@ use std::thread::Threads;
 pub struct Subscription<L: StepLedger> {
     pub(crate) sub: u64,
     pub(crate) end: Endpoint,
-    pub(crate) base: Tables,
+    // what its tables were when it began
+    pub(crate) base: Beginning,
     pub(crate) told: Vec<Told>,
     // there exactly if it has fallen
     pub(crate) pending: Option<Pending>,
@@ -72,7 +74,7 @@ impl<L: StepLedger> Model for Subscription<L> {
       start = s.end.start;
       link = s.end.link;
       closed = s.end.closed;
-      base = s.base;
+      base = s.base.value;
       tables = s.end.tables;
       told = s.told.items;
       pending = s.pending;
@@ -81,9 +83,10 @@ impl<L: StepLedger> Model for Subscription<L> {
 
     ghost invariant = { λ s. (s.end.cursor ≡ s.end.start + length s.told.items)
         × AreInCells L.cells (suc s.end.start) s.told.items
-        × HasSingleTables s.base (entries_told s.told.items) s.end.tables
+        × HasSingleTables s.base.value (entries_told s.told.items) s.end.tables
         × (s.end.fallen ≡ is_some s.pending)
-        × IfSome s.pending (IsPendingOver L.cells s.end.cursor s.base s.told.items s.end.tables)
+        × IfSome s.pending (IsPendingOver L.cells s.end.cursor s.base.value s.told.items
+        s.end.tables)
         × IfSome s.pending (λ p. (vec_len s.told + length p.tokens ≤ vec_capacity s.told)
         × (s.end.cursor + length p.tokens < 2 ^ 64))
         × (s.share.parts ≡ 1)

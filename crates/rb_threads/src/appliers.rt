@@ -283,7 +283,7 @@ fn meet<R: Threads + Clock + Abort + Sync>(rt: &R, alloc: Global, n: usize) -> R
 {
     let mut tables = tables(alloc, &[1, 0])?;
     let changeset = inserts(alloc, n)?;
-    have_one_each(rt, &split(alloc, &changeset, tables.schema(), n)?);
+    have_one_each(rt, &split(rt, alloc, &changeset, tables.schema(), n)?);
     let meeting = Meeting::new(rt, alloc, n)?;
     apply_split(rt, alloc, &mut tables, &changeset, n, &meeting)?;
     assert_eq!(rt; tables.rows_in_order(alloc)?.len(), n);

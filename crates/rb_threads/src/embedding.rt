@@ -23,6 +23,9 @@ use std::test::Fail;
 use std::thread;
 use std::thread::Threads;
 
+// after this many turns a loop gives up
+const MOST_TURNS: u64 = 10_000_000;
+
 // Sends changesets of these tables through a broker to a subscriber, and writes its rows.
 fn replicate<R: Threads + Wait + Sync, W: Write>(
     rt: &R,
@@ -103,7 +106,16 @@ fn end<L: Hall, R: Wait>(
         subscription,
     } = owners;
     let publishers = vec![in alloc; publisher]?;
-    match finish(rt, alloc, publishers, sequencer, maker, broker) {
+    let closing = broker.sequence().closing();
+    match finish(
+        rt,
+        alloc,
+        closing.as_ref(),
+        publishers,
+        sequencer,
+        maker,
+        broker,
+    ) {
         Ok(_finished) => Ok(subscription),
         Err(unfinished) => Err(unfinished.why.into()),
     }
@@ -163,7 +175,7 @@ fn send<L: Hall, R: Wait>(
     requires { set.publisher ≡ publisher.old.number }
 {
     let mut set = set;
-    for _ in rt.forever() {
+    for _ in 0..MOST_TURNS {
         match publisher.send(rt, broker, set) {
             Ok(_own) => return Ok(()),
             Err(SendRefusal::Full(back)) => set = back,
@@ -171,7 +183,7 @@ fn send<L: Hall, R: Wait>(
         }
         thread::yield_now();
     }
-    unreachable!()
+    bail!("the intake stays full")
 }
 
 // places what is sent, and closes the sequence after it
@@ -182,7 +194,7 @@ fn place<L: Hall, R: Wait>(
     all_sent: &AtomicBool,
     mut sequencer: Sequencer<L>,
 ) -> Sequencer<L> {
-    for _ in rt.forever() {
+    for _ in 0..MOST_TURNS {
         // read before the turn: if all was sent, an idle turn is the last
         let is_last = all_sent.load(Ordering::SeqCst);
         match sequencer.turn(rt, alloc, broker) {
@@ -202,7 +214,7 @@ fn accept<L: Hall, R: Wait>(
     broker: &Broker<L>,
     mut subscription: Subscription<L>,
 ) -> Result<Subscription<L>> {
-    for _ in rt.forever() {
+    for _ in 0..MOST_TURNS {
         match broker.take(rt, alloc, &mut subscription, 0) {
             Ok(delivery) => settle(rt, alloc, broker, &mut subscription, &delivery)?,
             Err(TakeError::Drained(_last)) => return Ok(subscription),
@@ -212,7 +224,7 @@ fn accept<L: Hall, R: Wait>(
             Err(why) => return Err(why.into()),
         }
     }
-    unreachable!()
+    bail!("nothing more comes")
 }
 
 fn settle<L: Hall, R: Wait>(

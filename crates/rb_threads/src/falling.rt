@@ -67,10 +67,8 @@ impl<L: Hall> History<L> {
     /// Whether what fell can be resumed with this cursor and the rows after so many entries.
     pub fn fits(&self, alloc: Global, cursor: u64, count: u64) -> Result<Said, Fail> {
         let tables = self.tables_at(alloc, count)?;
-        match made(self.lost.as_ref())?.fits(alloc, &tables, cursor) {
-            Ok(fits) => Ok(Said::Fits(fits)),
-            Err(_) => Ok(Said::Memory),
-        }
+        let fits = made(self.lost.as_ref())?.fits(&tables, cursor);
+        Ok(Said::Fits(fits))
     }
 
     /// Resumes it with them.

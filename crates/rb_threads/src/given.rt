@@ -13,6 +13,16 @@ pub fn insert(key: u64) -> [u8; 20] {
     change(0x12, key)
 }
 
+/// The same INSERT, then an UPDATE of the row to (key, 'y').
+pub fn insert_and_update(key: u64) -> [u8; 38] {
+    let k = key.to_be_bytes();
+    [
+        0x54, 2, 1, 0, 0x74, 0, 0x12, 0, 1, k[0], k[1], k[2], k[3], k[4], k[5], k[6], k[7], 3, 1,
+        0x78, 0x17, 0, 1, k[0], k[1], k[2], k[3], k[4], k[5], k[6], k[7], 3, 1, 0x78, 0, 3, 1,
+        0x79,
+    ]
+}
+
 /// A DELETE of (key, 'x') from it.
 pub fn delete(key: u64) -> [u8; 20] {
     change(0x09, key)

@@ -7,13 +7,14 @@ use crate::given::opened;
 use crate::history::{History, Said};
 use crate::rows::{
     A_LATE_CLOCK_IS_NO_EARLIER_ONE, A_NEW_LINK_AT_THE_FRONT, A_NEW_LINK_CUTS_ANEW,
-    A_REFUSED_BATCH_IS_OPENED, CLOSED_SEQUENCE, FOREIGN_DELIVERIES_ARE_REFUSED, FULL_INTAKE, LEFT,
-    ONE_MORE_AND_THE_LAST, RESUMED_FROM_AFTER, RESUMED_FROM_BEFORE, Row, SEGMENT,
-    THE_WINDOW_AND_THE_FLOOR, UNFINISHED, WHAT_EXPIRES_IS_DELIVERED_AGAIN,
-    WHAT_IS_GIVEN_BACK_GOES_TO_ANY, WITHDRAWAL,
+    A_REFUSED_BATCH_IS_OPENED, CLOSED_BEFORE_THE_TAKES, CLOSED_SEQUENCE,
+    FOREIGN_DELIVERIES_ARE_REFUSED, FULL_INTAKE, LEFT, MOST_WAITING, ONE_MORE_AND_THE_LAST,
+    RESUMED_FROM_AFTER, RESUMED_FROM_BEFORE, Row, SEGMENT, THE_WINDOW_AND_THE_FLOOR, UNFINISHED,
+    WHAT_EXPIRES_IS_DELIVERED_AGAIN, WHAT_IS_GIVEN_BACK_GOES_TO_ANY, WITHDRAWAL,
 };
 use rb_broker::{Hall, MOST_PUBLISHERS, Opened, PlaceRefusal, Publisher, TakeError};
 use rb_close::{FinishRefusal, Finished, Unfinished, finish};
+use rb_sequence::Item;
 use rb_subscriber::MOST_SUBSCRIPTIONS;
 use std::alloc::Global;
 use std::marker::Brand;
@@ -24,7 +25,12 @@ use std::thread::Threads;
 
 #[test]
 fn publishing(rt: HostRuntime) -> Result<(), Fail> {
-    for row in [FULL_INTAKE, WITHDRAWAL, CLOSED_SEQUENCE] {
+    for row in [
+        FULL_INTAKE,
+        WITHDRAWAL,
+        CLOSED_SEQUENCE,
+        CLOSED_BEFORE_THE_TAKES,
+    ] {
         history(&rt, rt.alloc(), row)?;
     }
     Ok(())
@@ -61,6 +67,16 @@ fn brokers_finish(rt: HostRuntime) -> Result<(), Fail> {
 }
 
 #[test]
+fn as_many_are_left_as_may_be(rt: HostRuntime) -> Result<(), Fail> {
+    on_broker(
+        &rt,
+        rt.alloc(),
+        (16, 4, 1, MOST_WAITING),
+        Scenario::FinishFull,
+    )
+}
+
+#[test]
 fn the_next_segment(rt: HostRuntime) -> Result<(), Fail> {
     on_broker(&rt, rt.alloc(), (16, 4, SEGMENT + 1, 1), Scenario::Fill)
 }
@@ -83,6 +99,7 @@ fn history<R: Threads + Wait + Abort + Sync>(
 enum Scenario {
     Rows(&'static [u8], u64),
     Finish,
+    FinishFull,
     Fill,
     Crowd,
 }
@@ -121,6 +138,7 @@ fn begins<L: Hall, R: Threads + Wait + Abort + Sync>(
     match scenario {
         Scenario::Rows(lines, _steps) => answers(rt, alloc, history, lines),
         Scenario::Finish => history.run(rt, alloc, str::from_utf8(UNFINISHED)?),
+        Scenario::FinishFull => fills_the_intake(rt, alloc, history),
         Scenario::Fill => fills(rt, alloc, history),
         Scenario::Crowd => crowds(rt, alloc, history),
     }
@@ -134,7 +152,8 @@ fn ends<L: Hall, R: Wait + Abort>(
 ) -> Result<(), Fail> {
     match scenario {
         Scenario::Rows(_lines, steps) => counts(rt, alloc, history, steps),
-        Scenario::Finish => finishes(rt, alloc, history),
+        Scenario::Finish => finishes(rt, alloc, history, &LEFT),
+        Scenario::FinishFull => finishes(rt, alloc, history, &[]),
         Scenario::Fill | Scenario::Crowd => Ok(()),
     }
 }
@@ -207,6 +226,22 @@ fn placed(said: Said) -> Option<u64> {
     }
 }
 
+// One is placed, one in hand, and as many wait as may.
+fn fills_the_intake<L: Hall, R: Threads + Wait + Abort + Sync>(
+    rt: &R,
+    alloc: Global,
+    history: &mut History<L>,
+) -> Result<(), Fail> {
+    let first = "put 1 = Placed(1)\nsend 0 2 = Sent(2)\nturn = SequenceFull";
+    history.run(rt, alloc, first)?;
+    for waiting in 0..MOST_WAITING {
+        let own = waiting.saturating_add(3);
+        let line = format!(in alloc; "send 0 {own} = Sent({own})")?;
+        history.run(rt, alloc, &line)?;
+    }
+    history.run(rt, alloc, "send 0 1 = Full")
+}
+
 // There are as many publishers and subscriptions as there may be.
 fn crowds<L: Hall, R: Threads + Wait + Abort + Sync>(
     rt: &R,
@@ -224,18 +259,20 @@ fn crowds<L: Hall, R: Threads + Wait + Abort + Sync>(
 }
 
 // Each refusal hands all back. That the sequence is open comes before that a publisher is missing.
-// What is left is the item in hand, then what waits in the intake.
+// What is left is the item in hand, then what waits in the intake: these, or the sendings of one
+// publisher after its first if none are named.
 fn finishes<L: Hall, R: Wait + Abort>(
     rt: &R,
     alloc: Global,
     history: History<L>,
+    left: &[(u64, u64)],
 ) -> Result<(), Fail> {
     let (open, last) = without_one(unfinished(history))?;
     let open = refused(rt, alloc, open, FinishRefusal::NotClosed)?;
     assert_eq!(rt; open.broker.close(rt).map(|told| told.last()), Some(1));
     let one = refused(rt, alloc, open, FinishRefusal::Missing)?;
     match try_twice(rt, alloc, with_one(one, last)?) {
-        Ok(finished) => has_left(rt, alloc, &finished),
+        Ok(finished) => has_left(rt, alloc, &finished, left),
         Err(_) => Err(Fail::new("nothing is missing")),
     }
 }
@@ -316,20 +353,46 @@ fn try_once<L: Hall, R: Wait>(
         broker,
         why: _why,
     } = all;
-    finish(rt, alloc, publishers, sequencer, maker, broker)
+    let closing = broker.sequence().closing();
+    finish(
+        rt,
+        alloc,
+        closing.as_ref(),
+        publishers,
+        sequencer,
+        maker,
+        broker,
+    )
 }
 
-fn has_left<R: Abort>(rt: &R, alloc: Global, finished: &Finished) -> Result<(), Fail> {
+fn has_left<R: Abort>(
+    rt: &R,
+    alloc: Global,
+    finished: &Finished,
+    left: &[(u64, u64)],
+) -> Result<(), Fail> {
     assert_eq!(rt; (finished.placed, finished.closing.last()), (1, 1));
     assert!(rt; finished.sequence.get(1).is_some());
-    assert_eq!(rt; finished.left.len(), LEFT.len());
-    for (item, own) in finished.left.iter().zip(LEFT.iter()) {
-        assert_eq!(rt; (item.publisher, item.own), *own);
-    }
+    are_left(rt, &finished.left, left);
     let refused = PlaceRefusal::Closed(finished.closing.again());
     let drained = TakeError::Drained(finished.closing.again());
     let said = format!(in alloc; "{refused}, {drained}")?;
     let text = "the sequence is closed, everything up to the last number is settled";
     assert_eq!(rt; said.as_str(), text);
     Ok(())
+}
+
+// as `finishes` says
+fn are_left<R: Abort>(rt: &R, items: &[Item], left: &[(u64, u64)]) {
+    if left.is_empty() {
+        assert_eq!(rt; items.len() as u64, MOST_WAITING + 1);
+        for (item, own) in items.iter().zip(2_u64..) {
+            assert_eq!(rt; (item.publisher(), item.own()), (0, own));
+        }
+        return;
+    }
+    assert_eq!(rt; items.len(), left.len());
+    for (item, own) in items.iter().zip(left) {
+        assert_eq!(rt; (item.publisher(), item.own()), *own);
+    }
 }

@@ -132,11 +132,22 @@ impl<L: Hall> History<L> {
     ) -> Result<(), Fail> {
         for line in lines.lines() {
             let (call, answer) = made(line.split_once(" = "))?;
-            let said = self.answer(rt, alloc, call)?;
-            let said = format!(in alloc; "{said:?}")?;
+            let said = match call.strip_prefix("text ") {
+                Some(number) => self.text(alloc, made(number.parse().ok())?)?,
+                None => {
+                    let said = self.answer(rt, alloc, call)?;
+                    format!(in alloc; "{said:?}")?
+                }
+            };
             assert_eq!(rt; said.as_str(), answer);
         }
         Ok(())
+    }
+
+    // the text of an entry, in hexadecimal
+    fn text(&self, alloc: Global, number: u64) -> Result<String, Fail> {
+        let entry = made(self.broker.sequence().get(number))?;
+        Ok(hex::encode(alloc, entry.text())?)
     }
 
     // Makes a call. Out of memory changes nothing: the same call goes on from there.

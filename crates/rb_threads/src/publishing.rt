@@ -1,6 +1,6 @@
 //! Calls of a history's publishers and of its sequencer.
 
-use crate::given::{delete, insert};
+use crate::given::{delete, insert, insert_and_update};
 use crate::history::{History, Said, made};
 use cs_model::Origin;
 use cs_parse::ParseError;
@@ -23,6 +23,7 @@ impl<L: Hall> History<L> {
         match name {
             "publisher" => self.publisher(alloc),
             "send" => self.send(rt, alloc, a, &insert(b)),
+            "change" => self.send(rt, alloc, a, &insert_and_update(b)),
             "withdraw" => self.withdraw(rt, alloc, a, b),
             "turn" => Ok(self.turn(rt, alloc)),
             "put" => self.put(rt, alloc, &insert(a)),
@@ -101,7 +102,11 @@ impl<L: Hall> History<L> {
     }
 
     fn hand(&self) -> Said {
-        Said::Hand(self.sequencer.hand().map(|item| (item.publisher, item.own)))
+        Said::Hand(
+            self.sequencer
+                .hand()
+                .map(|item| (item.publisher(), item.own())),
+        )
     }
 
     fn entry(&self, number: u64) -> Result<Said, Fail> {

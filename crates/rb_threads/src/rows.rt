@@ -25,11 +25,13 @@ hand = Hand(Some((0, 3)))",
 pub const WITHDRAWAL: Row = (
     (16, 4, 2, 4),
     b"\
-put 1 = Placed(1)
+change 0 1 = Sent(1)
+turn = Placed(1)
 withdraw 0 1 = Sent(2)
 turn = Placed(2)
 entry 1 = Sent(1)
 entry 2 = Withdraws(1)
+text 2 = 5402010074000900010000000000000001030179
 withdraw 0 1 = NotWithdrawn(AlreadyWithdrawn)
 withdraw 0 3 = NotWithdrawn(NotPlaced)
 publisher = Publisher(1)
@@ -52,6 +54,27 @@ send 0 2 = Closed(0)
 turn = Closed(0)
 hand = Hand(Some((0, 1)))",
     0,
+);
+
+// what was placed before the close is still delivered
+pub const CLOSED_BEFORE_THE_TAKES: Row = (
+    (16, 4, 16, 4),
+    b"\
+subscribe 0 = Made
+send 0 1 = Sent(1)
+send 0 2 = Sent(2)
+turn = Placed(1)
+close = Closed(1)
+send 0 3 = Closed(1)
+take 0 0 = Delivery(1, 0, 1, 1)
+accept 0 0 = Accepted(1)
+take 0 0 = Desk(Empty { front: 1 })
+ack 0 0 = Floor(1)
+take 0 0 = Drained(1)
+turn = Closed(1)
+hand = Hand(Some((0, 2)))
+close = Closed(1)",
+    2,
 );
 
 pub const THE_WINDOW_AND_THE_FLOOR: Row = (
@@ -140,10 +163,13 @@ put 4 = Placed(4)
 take 0 0 = Delivery(3, 0, 4, 4)
 put 5 = Placed(5)
 put 6 = Placed(6)
+put 7 = Placed(7)
+put 8 = Placed(8)
+put 9 = Placed(9)
 reconnect 0 = Link(2)
 accept 0 2 = Refused(StaleLink)
 ack 0 2 = Desk(StaleLink)
-take 0 0 = Delivery(4, 0, 4, 6)",
+take 0 0 = Delivery(4, 0, 4, 9)",
     6,
 );
 
@@ -324,6 +350,9 @@ turn = SequenceFull";
 
 // the publisher and the own number of each item that is left then
 pub const LEFT: [(u64, u64); 3] = [(1, 1), (0, 2), (0, 3)];
+
+// the most items that wait
+pub const MOST_WAITING: u64 = 4_096;
 
 // the numbers of a segment
 pub const SEGMENT: u64 = 65_536;

@@ -24,10 +24,6 @@ fn publishers_are_told_why(rt: HostRuntime) -> Result<(), Fail> {
             WithdrawRefusal::AlreadyWithdrawn,
             "the entry is withdrawn already",
         ),
-        (
-            WithdrawRefusal::Schema { section: 7 },
-            "section 7 has another shape than an earlier section of its table",
-        ),
         (WithdrawRefusal::Memory, "out of memory"),
     ];
     for (why, text) in withdrawn {

@@ -3,8 +3,10 @@ pub mod Parts
 pub mod Texts
 pub mod Did
 pub mod Inserts
-pub mod DeletedRows
+pub mod KeyRows
 pub mod Deletes
 pub mod Puts
+pub mod FoundRows
+pub mod Updates
 pub mod CursorLaws
 pub mod BodyLaws

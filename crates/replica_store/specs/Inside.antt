@@ -10,9 +10,10 @@ use Rattle.replica_store.specs.Picture.{HasCursor}
 abbrev pub WithoutRow : RowKey → StoredRows → StoredRows
 WithoutRow removed rows key body = (key ≡ removed → ⊥) × rows key body
 
--- the rows and this one
+-- the rows with this one under its key, in place of any other there
 abbrev pub WithBody : RowKey → List ℕ → StoredRows → StoredRows
-WithBody added value rows key body = ((key ≡ added) × (body ≡ value)) ⊎ rows key body
+WithBody put value rows key body =
+    ((key ≡ put) × (body ≡ value)) ⊎ ((key ≡ put → ⊥) × rows key body)
 
 -- a transaction is open over a replica's trees
 pub record IsInside (s : State) : Type 0 where

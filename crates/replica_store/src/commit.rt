@@ -3,12 +3,13 @@
 ghost use Rattle.std.specs.Prelude.{◌≡◌, ◌<◌, ◌^◌, pos, IfOk};
 ghost use Rattle.sqlite.specs.Held.{state};
 ghost use Rattle.sqlite.specs.State.{Survives};
-ghost use Rattle.replica_store.specs.Changes.{AfterChange, AfterChanges, Commits};
+ghost use Rattle.replica_store.specs.Changes.{row_body, AfterChange, AfterChanges, Commits};
+ghost use Rattle.replica_store.specs.Inside.{WithoutRow, WithBody};
 ghost use Rattle.replica_store.specs.Inside.{IsInside, ChangesRows, SetsCursor};
 ghost use Rattle.replica_store.specs.Picture.{HoldsReplica};
 ghost use Rattle.replica_store.specs.Steps.{WhereClean, Makes, AddsNone, HoldsCommit};
 
-use cs_model::RowKey;
+use cs_model::{Row, RowKey};
 use par_apply::RowChange;
 use sqlite::{Alter, Connection, Error, ErrorCode, Transaction, params};
 
@@ -54,19 +55,49 @@ fn change_one<S: Alter>(tx: &mut Transaction<'_, S>, change: &RowChange) -> Resu
         (state S.Store tx.old.conn.now) (state S.Store tx.new.conn.now) }
     ensures survives { AddsNone (state S.Store tx.old.conn.now) (state S.Store tx.new.conn.now) }
 {
-    let table = table_number(&change.0)?;
-    let bytes: &[u8] = &change.0.bytes;
-    tx.execute(
-        "DELETE FROM rb_row WHERE tab = ?1 AND rowkey = ?2",
-        params![table, bytes],
+    match &change.1 {
+        Some(row) => upsert_row(tx, &change.0, row),
+        None => delete_row(tx, &change.0),
+    }
+}
+
+// An upsert in two statements. For a new row ON CONFLICT costs more: it looks for the key twice.
+fn upsert_row<S: Alter>(tx: &mut Transaction<'_, S>, key: &RowKey, row: &Row) -> Result<(), Error>
+    requires { WhereClean IsInside (state S.Store tx.old.conn.now) }
+    ensures same_reference { tx.new.conn.ghost_name ≡ tx.old.conn.ghost_name }
+    ensures puts { Makes result (ChangesRows (WithBody key.now (row_body row.now)))
+        (state S.Store tx.old.conn.now) (state S.Store tx.new.conn.now) }
+    ensures survives { AddsNone (state S.Store tx.old.conn.now) (state S.Store tx.new.conn.now) }
+{
+    let table = table_number(key)?;
+    let bytes: &[u8] = &key.bytes;
+    let body = row.bytes();
+    let updated = tx.execute(
+        "UPDATE rb_row SET body = ?3 WHERE tab = ?1 AND rowkey = ?2",
+        params![table, bytes, body],
     )?;
-    if let Some(row) = &change.1 {
-        let body = row.bytes();
+    if updated == 0 {
         tx.execute(
             "INSERT INTO rb_row VALUES (?1, ?2, ?3)",
             params![table, bytes, body],
         )?;
     }
+    Ok(())
+}
+
+fn delete_row<S: Alter>(tx: &mut Transaction<'_, S>, key: &RowKey) -> Result<(), Error>
+    requires { WhereClean IsInside (state S.Store tx.old.conn.now) }
+    ensures same_reference { tx.new.conn.ghost_name ≡ tx.old.conn.ghost_name }
+    ensures deletes { Makes result (ChangesRows (WithoutRow key.now))
+        (state S.Store tx.old.conn.now) (state S.Store tx.new.conn.now) }
+    ensures survives { AddsNone (state S.Store tx.old.conn.now) (state S.Store tx.new.conn.now) }
+{
+    let table = table_number(key)?;
+    let bytes: &[u8] = &key.bytes;
+    tx.execute(
+        "DELETE FROM rb_row WHERE tab = ?1 AND rowkey = ?2",
+        params![table, bytes],
+    )?;
     Ok(())
 }
 

@@ -146,7 +146,7 @@ value_is Null (Text b) h = absurd (false≢true h)
 value_is Null (Blob b) h = absurd (false≢true h)
 value_is Null Null h = refl
 
-itself : (a : Value) → same_value a a ≡ true
+pub itself : (a : Value) → same_value a a ≡ true
 itself (Integer n) = int_itself n
 itself (Text bytes) = nat_list_eq_equiv.refl bytes
 itself (Blob bytes) = nat_list_eq_equiv.refl bytes

@@ -105,7 +105,7 @@ name_apart earlier (table ∷ tables) shape valid there =
         (sym (list_any-append (λ t. same_bytes t.name shape.name) earlier (table ∷ [])) ∙ more there)).0
 
 -- so two of its tables with one name are the same
-one_of_name : (earlier tables : List Shape) (a b : Shape) → tables_refusal earlier tables ≡ None
+pub one_of_name : (earlier tables : List Shape) (a b : Shape) → tables_refusal earlier tables ≡ None
     → has_shape tables a ≡ true → has_shape tables b ≡ true → a.name ≡ b.name → a ≡ b
 one_of_name earlier [] a b valid in_a in_b same = absurd (false≢true in_a)
 one_of_name earlier (table ∷ tables) a b valid in_a in_b same =

@@ -23,7 +23,7 @@ limited n most small within = packed_is_length n (omega arith)
 most_small : most_bytes < 2 ^ 64
 most_small = omega arith
 
-field_fits : (f : Field) → IsField f → Fits f
+pub field_fits : (f : Field) → IsField f → Fits f
 field_fits Undefined is = tt
 field_fits (Is (Integer n)) is = is
 field_fits (Is (Text bytes)) is = limited (length bytes) most_bytes most_small is

@@ -10,9 +10,11 @@ use Rattle.cs_model.specs.declared.value.Value.TheVariants.{Integer, Text, Blob,
 use Rattle.cs_model.specs.declared.value.Field.{Field}
 use Rattle.cs_model.specs.declared.value.Field.TheVariants.{Undefined, Is}
 use Rattle.cs_model.specs.Bytes.{AreBytes}
-use Rattle.cs_model.specs.Packed.{Fits, integer_by, typed_in}
+use Rattle.cs_model.specs.Changeset.{most_bytes, IsField}
+use Rattle.cs_model.specs.Packed.{integer_by, typed_in}
 use Rattle.cs_model.specs.Text.{SpellsBytes, SpellsField}
 use Rattle.cs_model.specs.Varint.{IsVarint}
+use Rattle.cs_model.proofs.packing.FitLaws.{field_fits}
 use Rattle.cs_model.proofs.packing.PackedLaws.{text_back, blob_back, typed_back}
 use Rattle.cs_model.proofs.spelling.EightBytes.{eight_bytes, number_back}
 
@@ -79,6 +81,14 @@ field_counted_short bytes rest text len count read only is few within s =
     let same = counted_count bytes text len count read only within s in
     omega (arith, same.1, ap length is, length-drop read bytes)
 
+-- a length above the limit
+pub field_counted_long : (bytes text : List ℕ) (len count read most : ℕ) → OnlyCount bytes (Some (count, read))
+    → most < count → length text ≤ most → len ≤ length bytes → SpellsBytes (take len bytes) text
+    → ⊥
+field_counted_long bytes text len count read most only many few within s =
+    let same = counted_count bytes text len count read only within s in
+    omega (arith, same.0)
+
 pub counted_found : (bytes rest : List ℕ) (count read : ℕ) → read ≤ length bytes → IsVarint (take read bytes) count
     → rest ≡ drop read bytes → count ≤ length rest
     → (read + count ≤ length bytes) × SpellsBytes (take (read + count) bytes) (take count rest)
@@ -105,16 +115,16 @@ counted_only bytes rest text len count read only is within s =
 
 -- ---- a field that is read is the only one
 
--- what begins the bytes, and fits, is this field of `n` bytes
+-- what begins the bytes, and is valid, is this field of `n` bytes
 abbrev OnlyField : List ℕ → Field → ℕ → Type 0
-OnlyField bytes f n = (field : Field) (len : ℕ) → Fits field → len ≤ length bytes → SpellsField (take len bytes) field
-    → ◌≡◌ {A = Option (Field × ℕ)} (Some (f, n)) (Some (field, len))
+OnlyField bytes f n = (field : Field) (len : ℕ) → IsField field → len ≤ length bytes
+    → SpellsField (take len bytes) field → ◌≡◌ {A = Option (Field × ℕ)} (Some (f, n)) (Some (field, len))
 
 -- What is spelled is what `typed_in` reads, and leaves as many bytes.
 pub only_typed : (bytes rest : List ℕ) (kind b n : ℕ) (f : Field) → bytes ≡ kind ∷ rest → kind ≡ b → n ≤ length rest
     → typed_in b rest ≡ (f, drop n rest) → OnlyField bytes f (1 + n)
-only_typed bytes rest kind b n f whole is within reads field len fits inside spells =
-    let again = typed_back field (take len bytes) (drop len bytes) spells fits in
+only_typed bytes rest kind b n f whole is within reads field len valid inside spells =
+    let again = typed_back field (take len bytes) (drop len bytes) spells (field_fits field valid) in
     let same : again.byte ∷ again.body ≡ b ∷ rest = sym again.whole
     ∙ (take-append-drop len bytes ∙ (whole ∙ ap (λ (k : ℕ). k ∷ rest) is)) in
     let byte : again.byte ≡ b = cc in
@@ -188,42 +198,43 @@ front_so (suc k) kind rest b tail within e =
 
 -- no length, with so many bytes behind it, begins the bytes
 abbrev NoneCounted : List ℕ → Type 0
-NoneCounted rest = (text : List ℕ) (len : ℕ) → len ≤ length rest → SpellsBytes (take len rest) text → ⊥
+NoneCounted rest = (text : List ℕ) (len : ℕ) → length text ≤ most_bytes → len ≤ length rest
+    → SpellsBytes (take len rest) text → ⊥
 
 none_front : (len kind : ℕ) (rest : List ℕ) (field : Field) → (kind ≡ 0 → ⊥) → (kind ≡ 1 → length rest < 8)
-    → (3 ≤ kind → kind < 5 → NoneCounted rest) → (kind ≡ 5 → ⊥) → len ≤ length (kind ∷ rest)
+    → (3 ≤ kind → kind < 5 → NoneCounted rest) → (kind ≡ 5 → ⊥) → IsField field → len ≤ length (kind ∷ rest)
     → SpellsField (take len (kind ∷ rest)) field
     → ⊥
-none_front len kind rest Undefined undefined few counted null within spells =
+none_front len kind rest Undefined undefined few counted null valid within spells =
     undefined (front_so len kind rest 0 [] within spells).kind_is
-none_front len kind rest (Is (Integer n)) undefined few counted null within spells =
+none_front len kind rest (Is (Integer n)) undefined few counted null valid within spells =
     let number = to_be_bytes w64 (cast_unsigned w64 n) in
     let front = front_so len kind rest 1 number within spells in
     let long : length number ≡ 8 = refl in
     omega (arith, few front.kind_is, length-take-le front.k rest front.within, ap length front.tail_is)
-none_front len kind rest (Is (Text text)) undefined few counted null within spells =
+none_front len kind rest (Is (Text text)) undefined few counted null valid within spells =
     let front = front_so len kind rest 3 spells.0 within spells.1 in
-    counted (omega arith) (omega arith) text front.k front.within
+    counted (omega arith) (omega arith) text front.k valid front.within
     (subst (λ (w : List ℕ). SpellsBytes w text) (sym front.tail_is) spells.2)
-none_front len kind rest (Is (Blob text)) undefined few counted null within spells =
+none_front len kind rest (Is (Blob text)) undefined few counted null valid within spells =
     let front = front_so len kind rest 4 spells.0 within spells.1 in
-    counted (omega arith) (omega arith) text front.k front.within
+    counted (omega arith) (omega arith) text front.k valid front.within
     (subst (λ (w : List ℕ). SpellsBytes w text) (sym front.tail_is) spells.2)
-none_front len kind rest (Is Null) undefined few counted null within spells =
+none_front len kind rest (Is Null) undefined few counted null valid within spells =
     null (front_so len kind rest 5 [] within spells).kind_is
 
 pub no_field_read : (bytes rest : List ℕ) (kind len : ℕ) (field : Field) → bytes ≡ kind ∷ rest → (kind ≡ 0 → ⊥)
-    → (kind ≡ 1 → length rest < 8) → (3 ≤ kind → kind < 5 → NoneCounted rest) → (kind ≡ 5 → ⊥) → len ≤ length bytes
-    → SpellsField (take len bytes) field
+    → (kind ≡ 1 → length rest < 8) → (3 ≤ kind → kind < 5 → NoneCounted rest) → (kind ≡ 5 → ⊥) → IsField field
+    → len ≤ length bytes → SpellsField (take len bytes) field
     → ⊥
-no_field_read bytes rest kind len field whole undefined few counted null within spells =
-    none_front len kind rest field undefined few counted null (omega (arith, ap length whole))
+no_field_read bytes rest kind len field whole undefined few counted null valid within spells =
+    none_front len kind rest field undefined few counted null valid (omega (arith, ap length whole))
     (subst (λ (w : List ℕ). SpellsField (take len w) field) whole spells)
 
 -- where a text or a BLOB would stand, no bytes behind their length do
 pub no_counted_field : (bytes rest : List ℕ) (kind len : ℕ) (field : Field) → bytes ≡ kind ∷ rest → 3 ≤ kind → kind < 5
-    → NoneCounted rest → len ≤ length bytes → SpellsField (take len bytes) field
+    → NoneCounted rest → IsField field → len ≤ length bytes → SpellsField (take len bytes) field
     → ⊥
-no_counted_field bytes rest kind len field whole low high counted within spells =
+no_counted_field bytes rest kind len field whole low high counted valid within spells =
     no_field_read bytes rest kind len field whole (λ is. omega arith) (λ is. absurd (omega arith)) (λ l h. counted)
-    (λ is. omega arith) within spells
+    (λ is. omega arith) valid within spells

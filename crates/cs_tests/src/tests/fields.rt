@@ -49,6 +49,7 @@ fn pushes(
     field_push(&mut out, field)?;
     assert_eq!(rt; out.strip_prefix(front), Some(back), "{field:?}");
     gives(rt, Fields::of(&out), &[field]);
+    assert_eq!(rt; field_read(&out), Some((field, out.len())));
     Ok(())
 }
 
@@ -105,6 +106,15 @@ fn other_bytes(rt: &impl Abort) {
     gives(rt, Fields::of(b"\x03\x05ab"), &[Text(b"ab")]);
     gives(rt, Fields::of(b"\x04\x80"), &[Blob(b"\x80")]);
     gives(rt, Fields::of(b"\x01\0\x05"), &[Null, Undefined, Null]);
+    for bytes in [
+        &b""[..],
+        b"\x01\0",
+        b"\x02\0\0\0\0\0\0\0\0",
+        b"\x03\x02x",
+        b"\x06",
+    ] {
+        assert!(rt; field_read(bytes).is_none());
+    }
 }
 
 fn records(rt: &impl Abort, alloc: Global) -> Result<(), Fail> {

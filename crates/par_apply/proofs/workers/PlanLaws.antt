@@ -7,6 +7,7 @@ use Rattle.std.proofs.lemmas.Option.{none-some}
 use Rattle.std.proofs.lemmas.Map.{lookup-none}
 use Rattle.std.proofs.lemmas.Map.Entries.{none_past_head}
 use Rattle.std.proofs.lemmas.Map.Keys.{IsDistinct-tail}
+use Rattle.std.specs.Bool.{Decides}
 use Rattle.std.specs.Prelude.{sum}
 use Rattle.std.specs.FinMap as map
 use Rattle.std.specs.List.{IsDistinct}
@@ -17,12 +18,14 @@ use Rattle.cs_model.specs.Section.{Section}
 use Rattle.cs_apply.specs.declared.conflict.ApplyError.{ApplyError}
 use Rattle.cs_apply.specs.declared.conflict.ApplyError.TheVariants.{Conflict, Memory}
 use Rattle.cs_apply.specs.declared.conflict.Conflict.{Conflict as Conflicts}
+use Rattle.cs_apply.specs.Changed.{IsChanged, row_after_change}
 use Rattle.cs_apply.specs.Columns.{HaveColumns, table_flags}
 use Rattle.cs_apply.specs.Errors.{ReportsConflict}
 use Rattle.cs_apply.specs.Single.{changes_of, single, single_from, with_rows}
 use Rattle.cs_apply.specs.State.{Rows, TableState}
 use Rattle.cs_apply.proofs.rows_by_key.Keys.{same_key, exact_keys, keys_total, laws}
 use Rattle.par_apply.specs.declared.planned.RowPlan.{RowPlan}
+use Rattle.par_apply.specs.Durable.{changed_tables}
 use Rattle.par_apply.specs.Parts.{applied_part}
 use Rattle.par_apply.specs.Planned.{IsPlanOf, RowsFit, planned_changes}
 use Rattle.par_apply.specs.RowChanges.{IsRowChange, RowChanges, overlaid}
@@ -152,3 +155,31 @@ plan_done tables staged done sections changes made plan is same_changes same =
     plan_leaves tables sections changes plan
     ∙ sym (ap (λ (t : TableState). Ok t)
     (is ∙ (λ i. record (same i) { rows = overlaid (same i).rows (same_changes i) })))
+
+-- ---- tables compared with those that changes leave
+
+after_over : (change : Option (Option (List Value))) (old : Option (List Value))
+    → row_after_change change old ≡ row_over change old
+after_over None old = refl
+after_over (Some row) old = refl
+
+changed_at : (rows : Rows) (changes : RowChanges) (q : RowKey)
+    → row_after_change (lookup (same_key q) changes) (map.get rows q) ≡ map.get (overlaid rows changes) q
+changed_at rows changes q = after_over (lookup (same_key q) changes) (map.get rows q) ∙ sym (get_overlaid rows changes q)
+
+-- key by key they are the tables that the changes leave exactly if they are these tables
+pub leads_decide : (before after : TableState) (changes : RowChanges) (value : Bool)
+    → Decides value (IsChanged before changes after) → Decides value (after ≡ changed_tables before changes)
+leads_decide before after changes value says = (
+  λ v. joined (says.0 v),
+  λ same. says.1 (
+    (ap (λ (t : TableState). t.schema) (sym same), ap (λ (t : TableState). t.kept) (sym same)),
+    λ q. ap (λ (t : TableState). map.get t.rows q) same ∙ sym (changed_at before.rows changes q),
+  ),
+)
+  where
+    joined : IsChanged before changes after → after ≡ changed_tables before changes
+    joined is =
+        let rows = map.same_map keys_total exact_keys after.rows (overlaid before.rows changes)
+        (λ q. is.1 q ∙ changed_at before.rows changes q) in
+        λ i. record { schema = sym is.0.0 i; kept = sym is.0.1 i; rows = rows i }

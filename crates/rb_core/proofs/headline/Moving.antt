@@ -3,7 +3,7 @@ use Rattle.std.proofs.Common.{◌≡◌, ℕ, zero, suc, inl, inr, ⊎_elim, tru
 use Rattle.std.proofs.Common.{subst}
 use Rattle.std.specs.Prelude.{slice_get, slice_set}
 use Rattle.std.specs.List.{AllByRecursion}
-use Rattle.rb_sequence.specs.declared.item.Item.{Item}
+use Rattle.rb_sequence.specs.Item.{Item}
 use Rattle.rb_core.specs.World.{Sender, World}
 use Rattle.rb_core.specs.Moves.{IsIn, AddsPublisher, Streams, Sends, Pulls, Places, Closes, Subscribes, Delivers}
 use Rattle.rb_core.specs.Moves.{Accepts, Reconnects, Unsubscribes, Withdraws, Crashes, Resumes, Moves, Leads}

@@ -1,10 +1,6 @@
 -- The invariant of a world, part by part.
 use Rattle.std.proofs.Common.{◌≡◌, ℕ, zero, suc, ◌<◌, ◌≤◌, Bool, List, [], ◌∷◌, ◌++◌, length, map, Option, Some, None}
 use Rattle.std.proofs.Common.{option_map, slice_get, slice_set, refl, sym, ap, ◌∙◌, arith}
-use Rattle.std.proofs.Common.{◌==◌, find}
-use Rattle.std.specs.Borrow.{Bor}
-use Rattle.std.specs.Prelude.{IfSome}
-use Rattle.std.specs.Option.{option_copied}
 use Rattle.std.specs.List.{AllByRecursion}
 use Rattle.cs_model.specs.declared.shape.Shape.{Shape}
 use Rattle.std.proofs.lemmas.List.{length-append, length-map, map-set}
@@ -14,7 +10,7 @@ use Rattle.rb_desk.specs.declared.delivery.Delivery.{Delivery}
 use Rattle.rb_desk.specs.Outline.{Member, Outline, outline_of}
 use Rattle.rb_desk.specs.Outline as outline
 use Rattle.rb_desk.specs.Picture.{Picture}
-use Rattle.rb_sequence.specs.declared.item.Item.{Item}
+use Rattle.rb_sequence.specs.Item.{Item}
 use Rattle.rb_sequence.specs.Entry.{Entry}
 use Rattle.rb_subscriber.specs.Accept.{IsAdmitted}
 use Rattle.rb_subscriber.specs.Endpoint.{Endpoint}
@@ -23,7 +19,6 @@ use Rattle.rb_core.specs.State.{State, member_of_end, AdmitsAll, AdmitsBody, IsO
 use Rattle.rb_core.proofs.invariants.DeskLaws.{KeepsLimits}
 use Rattle.rb_core.proofs.headline.Moving.{all_map}
 use Rattle.rb_core.proofs.invariants.Numbers.{numbered_push}
-use Rattle.rb_core.proofs.whole_runs.Pairs.{all_find}
 
 -- ---- lists
 
@@ -71,14 +66,6 @@ end_within w s member good found =
     let there : slice_get (map member_of_end w.endpoints) s ≡ Some member =
     ap (λ (ms : List Member). slice_get ms s) good.members ∙ found in
     omega (arith, slice_get_within (map member_of_end w.endpoints) s member there, length-map w.endpoints member_of_end)
-
--- what is found among admitted entries is admitted
-pub found_admitted : (schema : List Shape) (sequence : List Entry) (n : ℕ) (found : Option (Bor Entry))
-    → option_copied found ≡ find (λ (e : Entry). e.number == n) sequence → AllByRecursion (IsAdmitted schema) sequence
-    → IfSome found (λ entry. IsAdmitted schema entry.now)
-found_admitted schema sequence n None is all = tt
-found_admitted schema sequence n (Some entry) is all =
-    all_find (IsAdmitted schema) (λ (e : Entry). e.number == n) sequence entry.now all (sym is)
 
 -- ---- parts that change
 

@@ -14,7 +14,7 @@ use Rattle.cs_parse.specs.declared.fault.ParseFault.{ParseFault}
 use Rattle.cs_parse.specs.Progress as stream
 use Rattle.cs_parse.specs.Progress.{Progress, Took, nothing, advanced, progress_of}
 use Rattle.cs_parse.specs.Reading.{answer_of}
-use Rattle.rb_sequence.specs.declared.item.Item.{Item}
+use Rattle.rb_sequence.specs.Item.{Item}
 use Rattle.rb_core.specs.declared.event.Event.{Event}
 use Rattle.rb_core.specs.declared.event.Event.TheVariants as event
 use Rattle.rb_core.specs.declared.publisher.PublisherState.{PublisherState}

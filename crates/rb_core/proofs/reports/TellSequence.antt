@@ -9,7 +9,7 @@ use Rattle.rb_desk.specs.declared.refusal.DeskRefusal.{DeskRefusal}
 use Rattle.rb_desk.specs.IsPicture.{IsPicture}
 use Rattle.rb_desk.specs.Outline.{Outline, outline_of, Places as PlacesOne, Closes as EndsAll}
 use Rattle.rb_desk.specs.Picture.{Picture}
-use Rattle.rb_sequence.specs.declared.item.Item.{Item}
+use Rattle.rb_sequence.specs.Item.{Item}
 use Rattle.rb_sequence.specs.Entry.{Entry}
 use Rattle.rb_core.specs.declared.event.Event.TheVariants as event
 use Rattle.rb_core.specs.declared.reply.Reply.TheVariants as reply

@@ -28,7 +28,7 @@ call_after {A} steps call a is = ap (λ (r : Result A DeskRefusal). (r, call.1))
 abbrev pub StepsKeepLimits : Type 0
 StepsKeepLimits = (p : Picture) (step : Step) → (after_step p step).limits ≡ p.limits
 
-replayed_last : (p : Picture) (steps : List Step) (step : Step)
+pub replayed_last : (p : Picture) (steps : List Step) (step : Step)
     → replayed p (steps ++ step ∷ []) ≡ after_step (replayed p steps) step
 replayed_last p [] step = refl
 replayed_last p (first ∷ steps) step = replayed_last (after_step p first) steps step

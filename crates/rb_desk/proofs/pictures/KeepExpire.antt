@@ -86,7 +86,7 @@ module _ (timeout clock : ℕ) where
   back_floor front [] = refl
   back_floor front (p ∷ rest) = ap (λ n. n - 1) (back_first p)
 
-  back_in : (n : ℕ) (spans : List Span) → IsInSpan n spans → IsInSpan n (gone_back timeout clock spans)
+  pub back_in : (n : ℕ) (spans : List Span) → IsInSpan n spans → IsInSpan n (gone_back timeout clock spans)
   back_in n [] i = i
   back_in n (p ∷ rest) i = by (is_due timeout clock p.status) i (back_in n rest)
     where

@@ -255,7 +255,7 @@ floor_offered low offered high spans h le never = by (cases_lt offered (floor_of
 -- ---- one is removed
 
 -- none is removed where none begins with this number
-without_none : ChangesNoLater without_first
+pub without_none : ChangesNoLater without_first
 without_none = changes_no_later without_first (λ _. refl) (λ first p rest other.
     ap (λ b. cond (not b) (p ∷ without_first first rest) (without_first first rest)) other)
 

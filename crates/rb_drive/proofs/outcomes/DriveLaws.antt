@@ -7,7 +7,7 @@ use Rattle.cs_apply.specs.State as tables
 use Rattle.cs_model.specs.declared.shape.Shape.{Shape}
 use Rattle.rb_core.specs.State.{empty_tables}
 use Rattle.rb_sequence.specs.Cells.{AreInCells, CellToken, Cells, LastToken}
-use Rattle.rb_sequence.specs.declared.item.Item.{Item}
+use Rattle.rb_sequence.specs.Item.{Item}
 use Rattle.rb_broker.specs.Publishers.{PublisherView}
 use Rattle.rb_sequencer.specs.Turns.{SequencerState}
 use Rattle.rb_subscriber.specs.Accept.{HasSingleTables}

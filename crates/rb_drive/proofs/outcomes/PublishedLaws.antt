@@ -6,7 +6,7 @@ use Rattle.cs_model.specs.declared.origin.Origin.TheVariants.{Sent}
 use Rattle.cs_model.specs.declared.shape.Shape.{Shape}
 use Rattle.cs_model.specs.Section.{Section}
 use Rattle.cs_parse.specs.declared.end.EndError.{EndError}
-use Rattle.rb_sequence.specs.declared.item.Item.{Item}
+use Rattle.rb_sequence.specs.Item.{Item}
 use Rattle.rb_broker.specs.Publishers.{PublisherView, StagedView, item_of}
 use Rattle.rb_broker.specs.Refusing.{EndsWith}
 use Rattle.rb_drive.specs.declared.input.Given.{Given}

@@ -30,3 +30,9 @@ pub hex_ends : (made whole rest : List ℕ) → made ++ encode_lower rest ≡ wh
 hex_ends made whole rest so_far none =
     sym (append-nil made) ∙ ap (λ t. made ++ t) (sym (encoded_none lower_digits))
     ∙ ap (λ bytes. made ++ encode_lower bytes) (sym none) ∙ so_far
+
+pub hex_append : (some more : List ℕ) → encode_lower (some ++ more) ≡ encode_lower some ++ encode_lower more
+hex_append some more = encoded_append lower_digits some more
+
+pub hex_none : encode_lower [] ≡ []
+hex_none = encoded_none lower_digits

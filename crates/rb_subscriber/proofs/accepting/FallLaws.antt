@@ -3,6 +3,9 @@ use Rattle.std.proofs.Common.{◌≡◌, ℕ, suc, ◌+◌, ◌≤◌, List, len
 use Rattle.std.proofs.Common.{arith, Option, Some, None, Result, Ok, Err}
 use Rattle.std.specs.Option.{is_some}
 use Rattle.std.specs.Prelude.{IfNone, IfSome}
+use Rattle.std.specs.List.{IsDistinct}
+use Rattle.std.specs.Map.{keys_of}
+use Rattle.cs_apply.specs.SameKey.{same_key}
 use Rattle.cs_apply.specs.Single.{single}
 use Rattle.cs_apply.specs.State.{TableState}
 use Rattle.cs_apply.specs.declared.conflict.Conflict.{Conflict}
@@ -80,14 +83,15 @@ durable_free cells d result old new free answers =
 
 pub pending_over : (cells : Cells) (cursor : ℕ) (base : TableState) (told shown : List CellToken) (now : TableState)
     (changes : RowChanges) (d : Delivery) → d.first ≡ suc cursor → suc cursor ≤ d.last
-    → ShowDelivery cells d shown → RowsFit now changes
+    → ShowDelivery cells d shown → RowsFit now changes → IsDistinct same_key (keys_of changes)
     → HasSingleTables base (entries_told told) now
     → HasSingleTables now (entries_told shown) (changed_tables now changes)
     → IsPendingOver cells cursor base told now (record { tokens = shown; changes = changes })
-pending_over cells cursor base told shown now changes d next some are fit singly more = record {
+pending_over cells cursor base told shown now changes d next some are fit distinct singly more = record {
   shown = subst (λ n. AreInCells cells n shown) next are.0;
   some = omega (arith, are.1, next, some);
   fit = fit;
+  distinct = distinct;
   singly = singly_on base told shown now (changed_tables now changes) singly more;
 }
 

@@ -11,10 +11,10 @@ use std::io::{ErrorKind, Read, Write};
 use std::process::Abort;
 use std::test::Fail;
 
-// A reader that returns some bytes, and then fails.
+/// A reader that returns some bytes, and then fails.
 #[derive(Drop)]
-struct Failing<'a> {
-    rest: &'a [u8],
+pub struct Failing<'a> {
+    pub rest: &'a [u8],
 }
 
 impl Read for Failing<'_> {
@@ -202,7 +202,7 @@ fn stopped<F: Display + Drop>(
     };
     let text = format!(in alloc; "{fault}")?;
     let text = text.as_str();
-    if text != want && (text == "out of memory" || text.starts_with("write fault")) {
+    if text != want && (text == "out of memory" || text == "write fault") {
         return Err("out of memory")?;
     }
     assert_eq!(rt; text, want);
@@ -232,19 +232,14 @@ fn stops(rt: HostRuntime) -> Result<(), Fail> {
         rest: b"publisher\nturn\ntur",
     };
     let read = run_plainly(alloc, &mut failing, &mut written);
-    stopped(&rt, alloc, read, "read fault: timed out")?;
+    stopped(&rt, alloc, read, "read fault")?;
     assert!(rt; written.as_slice() == b"publisher 0\nidle\n".as_slice());
     let mut script: &[u8] = b"publisher\n";
     let full = run_plainly(alloc, &mut script, &mut Full);
-    stopped(&rt, alloc, full, "write fault: write zero")?;
+    stopped(&rt, alloc, full, "write fault")?;
     let mut nothing = Vec::new(alloc);
     let endless = run_plainly(alloc, &mut Unending, &mut nothing);
-    stopped(
-        &rt,
-        alloc,
-        endless,
-        "script too long: more than 16777216 bytes",
-    )?;
+    stopped(&rt, alloc, endless, "script too long")?;
     assert!(rt; nothing.is_empty());
     let memory = format!(in alloc; "{}", ScriptFault::Memory)?;
     assert_eq!(rt; memory.as_str(), "out of memory");
@@ -299,7 +294,7 @@ fn write_faults_carry_their_reason(rt: HostRuntime) -> Result<(), Fail> {
         let mut script: &[u8] = b"turn";
         let mut writer = Broken { writes, flushes };
         let run = run_plainly(alloc, &mut script, &mut writer);
-        stopped(&rt, alloc, run, "write fault: timed out")?;
+        stopped(&rt, alloc, run, "write fault")?;
     }
     Ok(())
 }
@@ -314,7 +309,7 @@ fn answers_are_handed_on_behind_a_fault(rt: HostRuntime) -> Result<(), Fail> {
     };
     let mut reader = Turning { begun: false };
     let run = run_plainly(alloc, &mut reader, &mut writer);
-    stopped(&rt, alloc, run, "script too long: more than 16777216 bytes")?;
+    stopped(&rt, alloc, run, "script too long")?;
     assert_eq!(rt; answered.get(), 257);
     Ok(())
 }
@@ -326,19 +321,19 @@ fn showing_stops(rt: HostRuntime) -> Result<(), Fail> {
     let mut written = Vec::new(alloc);
     let mut failing = Failing { rest: rows };
     let read = show(alloc, &mut failing, &mut written, RowForm::Sql);
-    stopped(&rt, alloc, read, "read fault: timed out")?;
+    stopped(&rt, alloc, read, "read fault")?;
     // nothing is written before the whole input is read
     assert!(rt; written.is_empty());
     let mut input: &[u8] = rows;
     let full = show(alloc, &mut input, &mut Full, RowForm::Json);
-    stopped(&rt, alloc, full, "write fault: write zero")?;
+    stopped(&rt, alloc, full, "write fault")?;
     let mut broken = Broken {
         writes: false,
         flushes: 0,
     };
     let mut input: &[u8] = rows;
     let unflushed = show(alloc, &mut input, &mut broken, RowForm::Sql);
-    stopped(&rt, alloc, unflushed, "write fault: timed out")?;
+    stopped(&rt, alloc, unflushed, "write fault")?;
     let input: &[u8] = rows;
     let mut reader = Hasty::new(input);
     let mut writer = Hasty::new(Vec::new(alloc));

@@ -21,21 +21,16 @@ changed_to_none c old new is a = record {
   );
 }
 
-pub changed_to_row : (c : RowKey × Option (List Value)) (row : List Value) (old mid new : State) → c.1 ≡ Some row
-    → ChangesRows (WithoutRow c.0) old mid
-    → ChangesRows (WithBody c.0 (row_body row)) mid new → ChangesRows (AfterChange c) old new
-changed_to_row c row old mid new is a b = record {
-  inside = b.inside;
-  mark = b.mark ∙ a.mark;
+pub changed_to_row : (c : RowKey × Option (List Value)) (row : List Value) (old new : State) → c.1 ≡ Some row
+    → ChangesRows (WithBody c.0 (row_body row)) old new → ChangesRows (AfterChange c) old new
+changed_to_row c row old new is a = record {
+  inside = a.inside;
+  mark = a.mark;
   rows = λ k v. (
-    λ s. elim ((b.rows k v).0 s) [
-      | inl this ↦ inl (this.0, rw (is, this.1) refl)
-      | inr there ↦ inr
-          ((a.rows k v).0 there)
-    ],
+    λ s. elim ((a.rows k v).0 s) [ inl this ↦ inl (this.0, rw (is, this.1) refl) | inr other ↦ inr other ],
     λ q. elim q [
-      | inl this ↦ (b.rows k v).1 (inl (this.0, (let e = rw is at this.1 in cc)))
-      | inr other ↦ (b.rows k v).1 (inr ((a.rows k v).1 other))
+      | inl this ↦ (a.rows k v).1 (inl (this.0, (let e = rw is at this.1 in cc)))
+      | inr other ↦ (a.rows k v).1 (inr other)
     ],
   );
 }

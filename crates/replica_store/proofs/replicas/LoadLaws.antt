@@ -19,7 +19,7 @@ use Rattle.cs_apply.proofs.rows_by_key.Keys.{exact, laws}
 use Rattle.replica_store.specs.Changes.{row_body}
 use Rattle.replica_store.specs.Loading.{IsSchemaRow, AreSchemaRows, ShowsBody, ShownBodies, AllShow, body_at, LoadsRows}
 use Rattle.replica_store.specs.Loading.{PutsBody, AddsShown, CannotAdd}
-use Rattle.replica_store.proofs.statements.DeletedRows.{key_of_parts}
+use Rattle.replica_store.proofs.statements.KeyRows.{key_of_parts}
 
 body_of_cond : (b : Bool) (row : List Value) (r : Option (List Value))
     → option_map row_body (cond b (Some row) r) ≡ cond b (Some (row_body row)) (option_map row_body r)

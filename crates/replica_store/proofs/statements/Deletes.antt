@@ -25,12 +25,12 @@ use Rattle.replica_store.specs.Picture.{row_record, Stores, AreSameRows, IsRepli
 use Rattle.replica_store.specs.Inside.{WithoutRow, IsInside, ChangesRows}
 use Rattle.replica_store.proofs.statements.Did.{did}
 use Rattle.replica_store.proofs.statements.Parts.{not_stopped, value_given, two_not_zero}
-use Rattle.replica_store.proofs.statements.Texts.{delete_text, delete_tests, delete_query, means_delete}
-use Rattle.replica_store.proofs.statements.DeletedRows.{key_params, row_left, row_was, still_rising}
+use Rattle.replica_store.proofs.statements.Texts.{delete_text, key_tests, delete_query, means_delete}
+use Rattle.replica_store.proofs.statements.KeyRows.{key_params, row_left, row_was, still_rising}
 
 -- no LIMIT, said in two ways
 unpaged : (db : Trees) (params : Row) (rows : List Row) → IsAnswer delete_query db params rows
-    → IsAnswer (rowid_query 0 delete_tests) db params rows
+    → IsAnswer (rowid_query 0 key_tests) db params rows
 unpaged db params rows a = record {
   staged = a.staged;
   grouped = a.grouped;
@@ -46,7 +46,7 @@ unpaged db params rows a = record {
 record Deletes (old new : State) (key : RowKey) : Type 0 where
   pub schema : new.now.schema ≡ replica_schema
   pub found : List Row
-  pub are : AreFound delete_tests (old.now.trees 0) (key_params key) found
+  pub are : AreFound key_tests (old.now.trees 0) (key_params key) found
   pub rows : new.now.trees 0 ≡ without_all (old.now.trees 0) (ids_of found)
   pub mark : new.now.trees 2 ≡ old.now.trees 2
 
@@ -67,7 +67,7 @@ deletes old new key count has h =
     record {
       schema = ap (λ (d : Database). d.schema) now;
       found = given.0;
-      are = found_rowids 0 delete_tests (overlay db []) params given.0
+      are = found_rowids 0 key_tests (overlay db []) params given.0
           (unpaged (overlay db []) params given.0 (given.1.answer Null));
       rows = ap (λ (t : Trees). t 0) all ∙ applied.rows;
       mark = ap (λ (t : Trees). t 2) all ∙ applied.tables.1.0 two_not_zero;

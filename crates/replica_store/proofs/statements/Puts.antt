@@ -22,9 +22,9 @@ use Rattle.replica_store.proofs.statements.Did.{did}
 use Rattle.replica_store.proofs.statements.Inserts.{has_inserted}
 use Rattle.replica_store.proofs.statements.Parts.{two_not_zero, cast_null, cast_int}
 use Rattle.replica_store.proofs.statements.Texts.{insert_text, insert_terms, means_insert}
-use Rattle.replica_store.proofs.statements.DeletedRows.{key_of_parts}
+use Rattle.replica_store.proofs.statements.KeyRows.{HasRowOf, key_of_parts}
 
--- the parameters of an insertion
+-- the parameters of an insertion and of an update
 abbrev pub row_params : RowKey → List ℕ → Row
 row_params key body = Int (pos key.table) ∷ Blob key.bytes ∷ Blob body ∷ []
 
@@ -58,21 +58,25 @@ puts_row old new key body count has h =
       mark = applied.tables.1.0 two_not_zero;
     }
 
-same_record : (id i : ℤ) (key k : RowKey) (body b : List ℕ) → row_record i k b ≡ row_record id key body
+pub same_record : (id i : ℤ) (key k : RowKey) (body b : List ℕ) → row_record i k b ≡ row_record id key body
     → (k ≡ key) × (b ≡ body)
 same_record id i key k body b e =
     let table : k.table ≡ key.table = cc in
     let bytes : k.bytes ≡ key.bytes = cc in
     (key_of_parts k key table bytes, cc)
 
-row_put : (old new : State) (key : RowKey) (body : List ℕ) → PutsRow old new key body
+row_put : (old new : State) (key : RowKey) (body : List ℕ) → (HasRowOf key (Stores old.now.trees) → ⊥)
+    → PutsRow old new key body
     → AreSameRows (Stores new.now.trees) (WithBody key body (Stores old.now.trees))
-row_put old new key body p k b =
+row_put old new key body none p k b =
     let rows = old.now.trees 0 in
     let news = row_record p.id key body ∷ [] in (
       λ s. elim (put_all_has news rows (row_record s.0 k b) (subst (λ l. Has l (row_record s.0 k b)) p.rows s.1)) [
         | inl new ↦ elim new [ inl is ↦ inl (same_record p.id s.0 key k body b is) | inr none ↦ absurd none ]
-        | inr there ↦ inr (s.0, there)
+        | inr there ↦ inr (
+          (λ same. none (b, (s.0, subst (λ k. Has rows (row_record s.0 k b)) same there))),
+          (s.0, there),
+        )
       ],
       λ q. elim q [
         | inl new ↦ (
@@ -81,18 +85,18 @@ row_put old new key body p k b =
               (put_all_adds news rows (row_record p.id k b) p.fresh (inl (rw (new.0, new.1) refl))),
         )
         | inr there ↦ (
-          there.0,
-          subst (λ l. Has l (row_record there.0 k b)) (sym p.rows)
-              (put_all_keeps news rows (row_record there.0 k b) p.fresh there.1),
+          there.1.0,
+          subst (λ l. Has l (row_record there.1.0 k b)) (sym p.rows)
+              (put_all_keeps news rows (row_record there.1.0 k b) p.fresh there.1.1),
         )
       ],
     )
 
 pub puts_in_row : (old new : State) (key : RowKey) (body : List ℕ) (r : Result ℕ Error) → IsInside old
-    → ExecutesInside 0 insert_text (row_params key body) old new r
+    → (HasRowOf key (Stores old.now.trees) → ⊥) → ExecutesInside 0 insert_text (row_params key body) old new r
     → OnOk r (ChangesRows (WithBody key body) old new)
-puts_in_row old new key body (Err e) i h = tt
-puts_in_row old new key body (Ok count) i h =
+puts_in_row old new key body (Err e) i none h = tt
+puts_in_row old new key body (Ok count) i none h =
     let p = puts_row old new key body count i.schema h.0 in
     let rep = i.replica in
     let rows = old.now.trees 0 in
@@ -110,6 +114,6 @@ puts_in_row old new key body (Ok count) i h =
           mark = (rep.mark.0, p.mark ∙ rep.mark.1);
         };
       };
-      rows = row_put old new key body p;
+      rows = row_put old new key body none p;
       mark = p.mark;
     }

@@ -72,16 +72,30 @@ means_first_mark = record { command = refl; plain = (refl, refl) }
 abbrev pub delete_text : List ℕ
 delete_text = codes "DELETE FROM rb_row WHERE tab = ?1 AND rowkey = ?2"
 
-abbrev pub delete_tests : List Term
-delete_tests = op2 (Compare Eq Binary) (col 1 1) (op1 ToNumeric (col 0 0)) ∷ op2 (Compare Eq Binary) (col 1 2)
+-- the tests for the row of a key
+abbrev pub key_tests : List Term
+key_tests = op2 (Compare Eq Binary) (col 1 1) (op1 ToNumeric (col 0 0)) ∷ op2 (Compare Eq Binary) (col 1 2)
     (col 0 1) ∷ []
 
 abbrev pub delete_query : Query
-delete_query = record (rowid_query 0 delete_tests) { limit = lit (Int (negsuc 0)); offset = lit (Int (pos 0)) }
+delete_query = record (rowid_query 0 key_tests) { limit = lit (Int (negsuc 0)); offset = lit (Int (pos 0)) }
 
 pub means_delete : Means delete_text (Delete 0 (record { lets = []; body = delete_query }))
 unfolding understood everything
 means_delete = record { command = refl; plain = (refl, refl) }
+
+abbrev pub update_text : List ℕ
+update_text = codes "UPDATE rb_row SET body = ?3 WHERE tab = ?1 AND rowkey = ?2"
+
+abbrev pub update_terms : List Term
+update_terms = col 1 0 ∷ col 1 0 ∷ col 1 1 ∷ col 1 2 ∷ col 0 2 ∷ []
+
+abbrev pub update_query : Query
+update_query = record delete_query { project = update_terms }
+
+pub means_update : Means update_text (Update 0 (record { lets = []; body = update_query }))
+unfolding understood everything
+means_update = record { command = refl; plain = (refl, refl) }
 
 abbrev pub insert_text : List ℕ
 insert_text = codes "INSERT INTO rb_row VALUES (?1, ?2, ?3)"

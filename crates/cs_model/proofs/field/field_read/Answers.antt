@@ -7,28 +7,28 @@ use Rattle.cs_model.proofs.spelling.FieldReads.{found_integer, no_field_read, no
 use Rattle.cs_model.proofs.field.field_read.Goals as goal
 
 pub returns-in_err-number-in-1-clause-only : goal.returns-in_err-number-in-1-clause-only
-returns-in_err-number-in-1-clause-only c = λ field len fits within spells.
+returns-in_err-number-in-1-clause-only c = λ field len valid within spells.
     let first = c.in_ok-kind in
     absurd (no_field_read c.args.bytes.now first.rest.now _ len field first.ensures.cases.0 (λ is. omega arith)
-    (λ is. c.in_err-number-in-1.ensures.cases) (λ low high. absurd (omega arith)) (λ is. omega arith) within spells)
+    (λ is. c.in_err-number-in-1.ensures.cases) (λ low high. absurd (omega arith)) (λ is. omega arith) valid within spells)
 
 pub returns-in_err-text-in-3-clause-only : goal.returns-in_err-text-in-3-clause-only
-returns-in_err-text-in-3-clause-only c = λ field len fits within spells.
+returns-in_err-text-in-3-clause-only c = λ field len valid within spells.
     absurd (no_counted_field c.args.bytes.now c.in_ok-kind.rest.now _ len field c.in_ok-kind.ensures.cases.0
-    (omega arith) (omega arith) (λ text n inside s. cc (c.in_err-text-in-3.ensures.only text n inside s)) within
-    spells)
+    (omega arith) (omega arith) (λ text n few inside s. cc (c.in_err-text-in-3.ensures.only text n few inside s))
+    valid within spells)
 
 pub returns-in_err-blob-in-4-clause-only : goal.returns-in_err-blob-in-4-clause-only
-returns-in_err-blob-in-4-clause-only c = λ field len fits within spells.
+returns-in_err-blob-in-4-clause-only c = λ field len valid within spells.
     absurd (no_counted_field c.args.bytes.now c.in_ok-kind.rest.now _ len field c.in_ok-kind.ensures.cases.0
-    (omega arith) (omega arith) (λ text n inside s. cc (c.in_err-blob-in-4.ensures.only text n inside s)) within
-    spells)
+    (omega arith) (omega arith) (λ text n few inside s. cc (c.in_err-blob-in-4.ensures.only text n few inside s))
+    valid within spells)
 
 pub returns-in_default-clause-only : goal.returns-in_default-clause-only
-returns-in_default-clause-only c = λ field len fits within spells.
+returns-in_default-clause-only c = λ field len valid within spells.
     let first = c.in_ok-kind in
     absurd (no_field_read c.args.bytes.now first.rest.now _ len field first.ensures.cases.0 (λ is. omega arith)
-    (λ is. absurd (omega arith)) (λ low high. absurd (omega arith)) (λ is. omega arith) within spells)
+    (λ is. absurd (omega arith)) (λ low high. absurd (omega arith)) (λ is. omega arith) valid within spells)
 
 pub returns-in-0-clause-only : goal.returns-in-0-clause-only
 returns-in-0-clause-only c =

@@ -1,12 +1,12 @@
 use Rattle.std.proofs.Common.{◌≡◌, ◌∙◌, ap, sym, subst, arith}
 use Rattle.rb_intake.specs.Joined.{HasEndedAs}
 use Rattle.rb_intake.specs.Passes.{LastKnows, MakerKnows}
-use Rattle.rb_close.proofs.FinishLaws.{broker_finishes, present_has_ended, room_is, taken_apart}
+use Rattle.rb_close.proofs.FinishLaws.{broker_finishes, last_queue, order_of_pulls, present_has_ended, room_is, taken_apart}
 use Rattle.rb_close.proofs.finishing.end.Goals as goal
 
 -- each publisher that was made is joined
-pub drain-requires-clause-all : goal.drain-requires-clause-all
-drain-requires-clause-all g c p below =
+pub drain-pass-requires-clause-all : goal.drain-pass-requires-clause-all
+drain-pass-requires-clause-all g c p below =
     let ps = c.args.publishers.items in
     let is = taken_apart ps c.args.sequencer _ _ _ _ _ _ _ c.into_parts-pass.ensures.pass
     c.into_parts-pass.ensures.pulled c.into_parts-pass.ensures.hand c.join_all.ensures c.end-last.ensures
@@ -17,8 +17,8 @@ drain-requires-clause-all g c p below =
     (present_has_ended p ps (c.requires.given p (omega (arith, below, made))))
 
 -- there is room for what waits
-pub drain-requires-clause-room : goal.drain-requires-clause-room
-drain-requires-clause-room g c =
+pub drain-pass-requires-clause-room : goal.drain-pass-requires-clause-room
+drain-pass-requires-clause-room g c =
     let ps = c.args.publishers.items in
     let is = taken_apart ps c.args.sequencer _ _ _ _ _ _ _ c.into_parts-pass.ensures.pass
     c.into_parts-pass.ensures.pulled c.into_parts-pass.ensures.hand c.join_all.ensures c.end-last.ensures
@@ -33,5 +33,15 @@ returns-clause-finishes g c =
     let is = taken_apart ps c.args.sequencer _ _ _ _ _ _ _ c.into_parts-pass.ensures.pass
     c.into_parts-pass.ensures.pulled c.into_parts-pass.ensures.hand c.join_all.ensures c.end-last.ensures
     c.with_hand-left.ensures.items in
-    broker_finishes g.L.StepLedger.cells ps c.args.sequencer _ _ _ _ _ is c.drain.ensures c.placed-placed.ensures.count
+    broker_finishes g.L.StepLedger.cells ps c.args.sequencer _ _ _ _ _ _ is c.drain-pass.ensures c.placed-placed.ensures.count
     c.requires.closing
+
+pub returns-clause-order : goal.returns-clause-order
+returns-clause-order g c =
+    let ps = c.args.publishers.items in
+    let is = taken_apart ps c.args.sequencer _ _ _ _ _ _ _ c.into_parts-pass.ensures.pass
+    c.into_parts-pass.ensures.pulled c.into_parts-pass.ensures.hand c.join_all.ensures c.end-last.ensures
+    c.with_hand-left.ensures.items in
+    let queue = last_queue ps c.args.sequencer _ _ _ _ _ c.into_parts-pass.ensures.pass c.join_all.ensures
+    c.end-last.ensures in
+    order_of_pulls ps c.args.sequencer _ _ _ _ _ is queue c.drain-pass.ensures

@@ -1,5 +1,6 @@
-use Rattle.std.proofs.Common.{subst}
-use Rattle.rb_close.specs.Finishing.{AreAllPresent, RefusesFinish}
+use Rattle.std.proofs.Common.{length, subst}
+use Rattle.std.specs.Option.{option_copied}
+use Rattle.rb_close.specs.Finishing.{AreAllPresent, RefusesFinish, closing_shown}
 use Rattle.rb_close.proofs.finishing.finish.Goals as goal
 
 -- each publisher that was made is given
@@ -13,4 +14,5 @@ returns-in-Ok-clause-all g c =
 
 pub returns-in-Err-clause-why : goal.returns-in-Err-clause-why
 returns-in-Err-clause-why g c =
-    subst (λ ps. RefusesFinish c.args.maker ps c.in-Err.why) c.deref.ensures.value c.in-Err.ensures.err
+    subst (λ ps. RefusesFinish c.args.maker (length c.args.sequencer.placed)
+    (closing_shown (option_copied c.args.closing)) ps c.in-Err.why) c.deref.ensures.value c.in-Err.ensures.err

@@ -1,5 +1,5 @@
 use Rattle.std.proofs.Common.{List, Option, slice_get, ap, subst, ◌∙◌}
-use Rattle.rb_sequence.specs.declared.item.Item.{Item}
+use Rattle.rb_sequence.specs.Item.{Item}
 use Rattle.rb_sequence.specs.Entry.{Entry}
 use Rattle.rb_core.specs.Moves.{AreAllOf}
 use Rattle.rb_core.specs.Told.{world_told}

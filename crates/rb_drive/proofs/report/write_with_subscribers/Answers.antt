@@ -10,4 +10,4 @@ pub returns-clause-err : goal.returns-clause-err
 returns-clause-err g c =
     on_err c.flush.result _ (stream_appends_front _ _ _ (Appends-Keeps _ _ _ _
     (Appends-trans _ _ _ _ _ c.in_ok-write_whole.ensures.ok c.in_ok-write_subscribers.ensures.ok)
-    c.flush.ensures.bytes))
+    c.flush.ensures))

@@ -12,8 +12,8 @@ pub returns-in_err-write_answer-clause-err : goal.returns-in_err-write_answer-cl
 returns-in_err-write_answer-clause-err g c =
     let p = err_from_is_err_and c.from_residual-in_err-write_answer.result
     c.from_residual-in_err-write_answer.ensures.1 in
-    let given = rw c.deref.ensures.value at c.in_ok-text.ensures in
-    let said = rw c.deref-2.ensures.value at c.in_err-write_answer.ensures.err in
+    let given = rw c.deref.ensures.value at c.in_ok-given.ensures in
+    let said = c.in_err-write_answer.ensures.err in
     rw (p.1, p.2) (stops_writing_line c.args.how c.args.place.number
     (line_at c.args.config (place_at c.args.place.stage c.args.place.line.items)) c.in_err-write_answer.field-0.0 _ _
     c.in_err-write_answer.ensures.faults

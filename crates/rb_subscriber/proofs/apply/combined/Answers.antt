@@ -13,7 +13,7 @@ loop-index-init g c = (c.new-group.ensures, ap (refusal_of c.args.schema.now) c.
 pub add-requires-clause-body : goal.add-requires-clause-body
 add-requires-clause-body g c =
     let all = g.E.Brought.entries c.args.entries.now in
-    ap (refusal_of c.args.schema.now) c.body.ensures
+    ap (refusal_of c.args.schema.now) c.body.ensures.body
     ∙ admitted_at c.args.schema.now all c.loop-index.index c.entry.result.now
     (subst (λ n. c.loop-index.index < n) c.count-index-end.ensures c.loop-index-test.true) c.entry.ensures c.requires
 
@@ -26,7 +26,7 @@ loop-index-preserved g c =
     let less : i < length all = subst (λ n. i < n) c.count-index-end.ensures c.loop-index-test.true in (
       c.in_ok-add.ensures.ok
           ∙ ap (λ sections. sections ++ c.body.result.now) c.loop-index.invariant.0
-          ∙ ap (λ sections. front ++ sections) (c.body.ensures ∙ sym (append-nil entry.item.body))
+          ∙ ap (λ sections. front ++ sections) (c.body.ensures.body ∙ sym (append-nil entry.item.body))
           ∙ sym (flat_map_both (λ e. e.item.body) (take i all) (entry ∷ []))
           ∙ ap joined_bodies (ap (λ e. take i all ++ e ∷ []) c.entry.ensures ∙ sym (take_more all i entry less)),
       c.in_ok-add.ensures.admitted,

@@ -16,7 +16,7 @@ returns-then-is_err-clause-first g c =
     let less : i < length all = subst (λ n. i < n) c.count-index-end.ensures c.loop-index-test.true in
     let front = at_front all i c.entry-entry.result.now less c.entry-entry.ensures in
     let refused = subst (λ body. IfErr c.admits.result (λ fault. refusal_of c.args.schema.now body ≡ Some fault))
-    c.body-body.ensures c.admits.ensures.refused in
+    c.body-body.ensures.body c.admits.ensures.refused in
     found_outside c.args.schema.now all i c.entry-entry.result.now c.admits.result
     front refused (sym c.is_err.ensures.value ∙ c.if-is_err.true) c.loop-index.invariant.0
 
@@ -26,9 +26,9 @@ loop-index-preserved g c =
     let i = c.loop-index.index in
     let less : i < length all = subst (λ n. i < n) c.count-index-end.ensures c.loop-index-test.true in
     let front = at_front all i c.entry-entry.result.now less c.entry-entry.ensures in
-    let ok = subst (λ body. OnOk c.admits.result (refusal_of c.args.schema.now body ≡ None)) c.body-body.ensures
+    let ok = subst (λ body. OnOk c.admits.result (refusal_of c.args.schema.now body ≡ None)) c.body-body.ensures.body
     c.admits.ensures.ok in
-    let valid = subst IsChangeset c.body-body.ensures c.iter-sections.ensures.valid in (
+    let valid = subst IsChangeset c.body-body.ensures.body c.iter-sections.ensures.valid in (
       goes_past c.args.schema.now all i c.entry-entry.result.now c.admits.result front
           ok (sym c.is_err.ensures.value ∙ c.if-is_err.false) c.loop-index.invariant.0,
       valid_more all i c.entry-entry.result.now less c.entry-entry.ensures

@@ -16,7 +16,7 @@ loop-past-preserved c =
     let first = c.first-in-loop-past.ensures in
     let at : t.number ≡ c.first-in-loop-past.result + c.loop-past.past = c.in-Some.ensures.1 in
     let number : t.number ≡ c.args.delivery.now.first + length inv.0 = omega (arith, at, first, inv.2) in
-    let body = c.body-body.ensures ∙ ap (λ (e : Entry). e.item.body) c.get_told.ensures in
+    let body = c.body-body.ensures.body ∙ ap (λ (e : Entry). e.item.body) c.get_told.ensures in
     let ok = subst (λ b. OnOk c.admits.result (refusal_of schema b ≡ None)) body c.admits.ensures.ok in
     let refused = subst (λ b. IfErr c.admits.result (λ fault. refusal_of schema b ≡ Some fault)) body
     c.admits.ensures.refused in (

@@ -7,8 +7,8 @@ use Rattle.rb_broker.proofs.HoldLaws.{answered}
 use Rattle.rb_broker.proofs.locked.Locked.subscribe.Goals as goal
 
 -- the desk made fewer than 1,024
-pub subscribe-requires-in-Ok-clause-room : goal.subscribe-requires-in-Ok-clause-room
-subscribe-requires-in-Ok-clause-room g c =
+pub subscribe-requires-in-Ok : goal.subscribe-requires-in-Ok
+subscribe-requires-in-Ok g c =
     let old = c.args.self.now in
     let ok = answered _ (subscribe old.desk.picture c.args.start).0 _ c.in-Ok.ensures.0 in
     let fits = c.only_subscribe_and_close.ensures.subscribe old.desk.picture c.args.start c.in-Ok.sub c.in-Ok.link ok in

@@ -1,5 +1,4 @@
-use Rattle.std.proofs.Common.{◌≡◌, ℕ, rules, sym, ap, subst, ◌∙◌}
-use Rattle.boxcar.proofs.Spans.{id_is}
+use Rattle.std.proofs.Common.{◌≡◌, ℕ, sym, ap, subst, ◌∙◌}
 use Rattle.rb_sequence.specs.Segments.{IsLocated, id_at}
 use Rattle.rb_sequence.specs.Cells.{CellToken}
 use Rattle.rb_sequence.proofs.cells.Cells.get_told.Goals as goal
@@ -10,13 +9,10 @@ value-cells-requires c =
     let j = c.locate-segment.result.1 in
     let numbers : c.told.inside.number ≡ c.args.told.now.number = ap (λ (t : CellToken). t.number) c.told.view_is in
     let here = c.requires.segment k j (subst (λ (n : ℕ). IsLocated n k j) numbers c.locate-segment.ensures) in
-    ap (λ (t : CellToken). t.segment) c.told.view_is ∙ here
-    ∙ id_is c.args.self.now.segments k c.index.result.now (search rules) (search rules)
+    ap (λ (t : CellToken). t.segment) c.told.view_is ∙ here ∙ c.slot.ensures
 
 pub value-requires : goal.value-requires
 value-requires c =
     let k = c.locate-segment.result.0 in
     let j = c.locate-segment.result.1 in
-    c.told.invariant.2 k j c.locate-segment.ensures
-    ∙ ap (λ v. id_at v.items j) (sym c.value-cells.ensures.0)
-    ∙ id_is c.value-cells.result.now.items j c.index-2.result.now (search rules) (search rules)
+    c.told.invariant.2 k j c.locate-segment.ensures ∙ ap (λ v. id_at v j) (sym c.value-cells.ensures) ∙ c.cell.ensures

@@ -8,5 +8,5 @@ agrees-requires-2 c =
     let j = c.locate-place.result.1 in
     let numbers : c.self.inside.number ≡ c.other.inside.number = search rules in
     let at = c.locate-place.ensures in
-    c.self.invariant.2 k j at ∙ ap (λ v. id_at v.items j) c.agrees.ensures
+    c.self.invariant.2 k j at ∙ ap (λ v. id_at v j) c.agrees.ensures
     ∙ sym (c.other.invariant.2 k j (subst (λ (n : ℕ). IsLocated n k j) numbers at))

@@ -1,5 +1,8 @@
 use Rattle.std.proofs.Common.{◌≡◌, ◌<◌, ◌≤◌, suc, Some, Ok, Err, sym, ap, ◌∙◌, subst, arith}
 use Rattle.std.proofs.lemmas.Result.{err_from_is_err_and}
+use Rattle.std.specs.List.{IsDistinct}
+use Rattle.std.specs.Map.{keys_of}
+use Rattle.cs_apply.specs.SameKey.{same_key}
 use Rattle.cs_apply.specs.State.{TableState}
 use Rattle.par_apply.specs.Durable.{changed_tables}
 use Rattle.par_apply.specs.Planned.{RowsFit, planned_changes}
@@ -27,9 +30,9 @@ returns-in_err-shown-clause-answers g c =
     durable_free g.L.StepLedger.cells c.args.delivery.now c.from_residual.result old _ c.in_default.ensures.why
     (due_kept g.L.StepLedger.cells c.args.delivery.now c.from_residual.result old _ (sym c.in_default.ensures.why)
     (looked_result g.L.StepLedger.cells c.args.sequence.now c.args.delivery.now c.schema-schema.result.now old
-    (state_of s.sub s.steps s.base s.pending s.end c.tokens_of.new.told.items) c.from_residual.result
+    (state_of s.sub s.steps s.base.value s.pending s.end c.tokens_of.new.told.items) c.from_residual.result
     c.in_err-shown.field-0.0 (p.1 ∙ ap (λ (e : SubscriptionError). Err e) p.2) c.requires.cells schema (sym c.in_default.ensures.why)
-    (ap (state_of s.sub s.steps s.base s.pending s.end) c.tokens_of.ensures.same ∙ c.self.view_is) c.in_err-shown.ensures.err))
+    (ap (state_of s.sub s.steps s.base.value s.pending s.end) c.tokens_of.ensures.same ∙ c.self.view_is) c.in_err-shown.ensures.err))
 
 pub invariant_of-entries : goal.invariant_of-entries
 invariant_of-entries g c = record {
@@ -38,11 +41,11 @@ invariant_of-entries g c = record {
 }
 
 -- the delivery was accepted
-accepted : (g : _) (c : goal.After-add g) → WasAccepted g.L.StepLedger.cells c.args.delivery.now c.self.inside.base
+accepted : (g : _) (c : goal.After-add g) → WasAccepted g.L.StepLedger.cells c.args.delivery.now c.self.inside.base.value
     c.self.inside.told.items c.in_ok-shown.shown.items c.add.new.told.items c.self.inside.end c.accept_kept.new.self
 accepted g c =
     let s = c.self.inside in
-    was_accepted g.L.StepLedger.cells c.args.sequence.now c.args.delivery.now s.base s.told.items
+    was_accepted g.L.StepLedger.cells c.args.sequence.now c.args.delivery.now s.base.value s.told.items
     c.tokens_of.new.told.items c.in_ok-shown.shown.items c.add.new.told.items _ s.end c.accept_kept.new.self
     c.requires.cells c.in_ok-shown.ensures.ok c.tokens_of.ensures.same c.add.ensures
     (ap entries_told c.deref.ensures.value) c.in-Ok.ensures.answers.0 c.in-Ok.ensures.singly c.self.invariant.0
@@ -67,9 +70,9 @@ pub returns-in-Ok-clause-answers : goal.returns-in-Ok-clause-answers
 returns-in-Ok-clause-answers g c =
     let s = c.self.inside in
     durable_free g.L.StepLedger.cells c.args.delivery.now (Ok c.in-Ok.cursor) c.args.self.now
-    (state_of s.sub s.steps s.base s.pending c.accept_kept.new.self c.add.new.told.items) c.in_default.ensures.why
+    (state_of s.sub s.steps s.base.value s.pending c.accept_kept.new.self c.add.new.told.items) c.in_default.ensures.why
     (rw (← c.self.view_is)
-    (due_ok g.L.StepLedger.cells c.args.delivery.now s.sub s.steps c.in-Ok.cursor s.base s.pending s.told.items
+    (due_ok g.L.StepLedger.cells c.args.delivery.now s.sub s.steps c.in-Ok.cursor s.base.value s.pending s.told.items
     c.add.new.told.items c.in_ok-shown.shown.items s.end c.accept_kept.new.self (accepted g c) c.self.invariant.0
     c.self.invariant.3 c.in-Ok.ensures.answers.1))
 
@@ -82,8 +85,8 @@ pub returns-in-Err-Refused-clause-answers : goal.returns-in-Err-Refused-clause-a
 returns-in-Err-Refused-clause-answers g c =
     let s = c.self.inside in
     durable_free g.L.StepLedger.cells c.args.delivery.now (Err (Refused c.in-Err-Refused.why)) c.args.self.now
-    (state_of s.sub s.steps s.base s.pending c.accept_kept.new.self c.tokens_of.new.told.items) c.in_default.ensures.why
-    (refused_kept g.L.StepLedger.cells c.args.sequence.now c.args.delivery.now s.sub s.steps s.base s.pending s.told.items
+    (state_of s.sub s.steps s.base.value s.pending c.accept_kept.new.self c.tokens_of.new.told.items) c.in_default.ensures.why
+    (refused_kept g.L.StepLedger.cells c.args.sequence.now c.args.delivery.now s.sub s.steps s.base.value s.pending s.told.items
     c.tokens_of.new.told.items c.in_ok-shown.shown.items _ s.end c.accept_kept.new.self _ c.in-Err-Refused.why
     c.args.self.now c.self.view_is c.tokens_of.ensures.same c.self.invariant.0 c.self.invariant.3 (sym c.in_default.ensures.why)
     c.requires.cells c.in_ok-shown.ensures.ok (ap entries_told c.deref.ensures.value) c.in-Err-Refused.field-0-is
@@ -108,13 +111,15 @@ invariant_of-self-in-Err-Store g c =
     s.end new) is c.in-Err-Store.ensures.answers in
     let fit = subst (λ (x : KeepError). IfStoreFailed (Err x) (λ plan. RowsFit s.end.tables (planned_changes plan))) is
     c.in-Err-Store.ensures.fit in
+    let distinct = subst (λ (x : KeepError). IfStoreFailed (Err x)
+    (λ plan. IsDistinct same_key (keys_of (planned_changes plan)))) is c.in-Err-Store.ensures.distinct in
     let pending = subst (λ (x : KeepError). IfStoreFailed (Err x) (λ plan. HasSingleTables s.end.tables
     (entries_told c.deref.result.now) (changed_tables s.end.tables (planned_changes plan)))) is
     c.in-Err-Store.ensures.pending in
-    let over = pending_over cells s.end.cursor s.base s.told.items shown s.end.tables changes d next some are fit
-    inv.2 (subst (λ es. HasSingleTables s.end.tables es (changed_tables s.end.tables changes))
+    let over = pending_over cells s.end.cursor s.base.value s.told.items shown s.end.tables changes d next some are fit
+    distinct inv.2 (subst (λ es. HasSingleTables s.end.tables es (changed_tables s.end.tables changes))
     (ap entries_told c.deref.ensures.value) pending) in
-    let holds = fell_holds cells s.base s.end new s.told.items c.tokens_of.new.told.items
+    let holds = fell_holds cells s.base.value s.end new s.told.items c.tokens_of.new.told.items
     (record { tokens = shown; changes = changes }) falls.fallen c.tokens_of.ensures.same inv.0 inv.1 inv.2 over in
     let last = last_shown cells d s.end.cursor shown next some are in
     let same : new.cursor ≡ s.end.cursor = ap (λ (x : Endpoint). x.cursor) falls.fallen in (
@@ -142,9 +147,9 @@ returns-in-Err-Store-clause-answers g c =
     let falls = subst (λ (x : KeepError). KeepAnswers (Err x) (accept_brought s.end (entries_told c.deref.result.now) d)
     s.end c.accept_kept.new.self) c.in-Err-Store.field-0-is c.in-Err-Store.ensures.answers in
     durable_free cells d (Err (Refused refusal.Store)) c.args.self.now
-    (state_of s.sub s.steps s.base (Some (record { tokens = shown; changes = planned_changes c.in-Err-Store.plan }))
+    (state_of s.sub s.steps s.base.value (Some (record { tokens = shown; changes = planned_changes c.in-Err-Store.plan }))
     c.accept_kept.new.self c.tokens_of.new.told.items) c.in_default.ensures.why
-    (it_falls cells d s.sub s.steps s.base s.pending s.told.items c.tokens_of.new.told.items shown
+    (it_falls cells d s.sub s.steps s.base.value s.pending s.told.items c.tokens_of.new.told.items shown
     (planned_changes c.in-Err-Store.plan) s.end c.accept_kept.new.self falls.after c.args.self.now c.self.view_is
     c.tokens_of.ensures.same inv.0 inv.3 are
     (subst (λ es. accept_brought s.end es d ≡ Ok falls.after) (ap entries_told c.deref.ensures.value) falls.accepts)

@@ -9,10 +9,10 @@ invariant_of-result g c =
     let cells = g.L.StepLedger.cells in
     let s = c.self.inside in
     let inv = c.self.invariant in
-    let goes = goes_on_with cells s.sub s.steps c.args.cursor c.cursor.result s.base c.args.tables s.end s.told.items
+    let goes = goes_on_with cells s.sub s.steps c.args.cursor c.cursor.result s.base.value c.args.tables s.end s.told.items
     c.joined-told.result.items s.pending c.args.self c.self.view_is c.requires.some c.requires.fits inv.1 inv.2 inv.4 inv.0
     c.cursor.ensures.value c.joined-told.ensures in
-    let holds = goes_on_holds cells s.base c.args.tables s.told.items (pending_tokens s.pending) c.joined-told.result.items
+    let holds = goes_on_holds cells s.base.value c.args.tables s.told.items (pending_tokens s.pending) c.joined-told.result.items
     c.args.cursor c.args.link s.end c.goes_on.result c.goes_on.ensures goes in (
       holds.0,
       holds.1,
@@ -28,9 +28,9 @@ pub returns : goal.returns
 returns g c =
     let s = c.self.inside in
     let inv = c.self.invariant in
-    let goes = goes_on_with g.L.StepLedger.cells s.sub s.steps c.args.cursor c.cursor.result s.base c.args.tables s.end
+    let goes = goes_on_with g.L.StepLedger.cells s.sub s.steps c.args.cursor c.cursor.result s.base.value c.args.tables s.end
     s.told.items c.joined-told.result.items s.pending c.args.self c.self.view_is c.requires.some c.requires.fits inv.1 inv.2
     inv.4 inv.0 c.cursor.ensures.value c.joined-told.ensures in
-    resumed_is s.sub s.steps c.args.cursor c.args.link s.base c.args.tables s.pending s.end c.goes_on.result s.told.items
+    resumed_is s.sub s.steps c.args.cursor c.args.link s.base.value c.args.tables s.pending s.end c.goes_on.result s.told.items
     c.joined-told.result.items c.goes_on.ensures goes.cut
     ∙ ap (λ (x : SubscriptionState). gone_on x c.args.tables c.args.cursor c.args.link) c.self.view_is
