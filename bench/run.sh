@@ -4,18 +4,9 @@
 # With words, as `ours read integers`, the program runs one job once. With `combine` or `invert` it compares
 # that alone.
 set -eu
-fail() {
-    echo "run.sh: $1" >&2
-    exit 1
-}
-
-cd "$(dirname "$0")/.."
-: "${RT:=rt}"
+. "$(dirname "$0")/../checks/begin.sh"
 : "${UNDER:=}"
-
-for package in gcc libc6-dev libsqlite3-dev; do
-    dpkg -s "$package" >/dev/null 2>&1 || apt-get install -y "$package" >&2
-done
+installs gcc libc6-dev libsqlite3-dev
 
 (cd crates/changeset_c && "$RT" lib >&2)
 # the toolchain's three functions between the library and malloc
@@ -23,21 +14,19 @@ heap="$(dirname "$($RT doc)")/c/liblibc_c.a"
 for library in crates/changeset_c/out/libchangeset_c.a "$heap"; do
     [ -e "$library" ] || fail "no $library: the command $RT has not made it"
 done
-made="$(mktemp -d)"
-trap 'rm -rf "$made"' EXIT
 gcc -O2 -Wall -Wextra -I include bench/*.c \
-    crates/changeset_c/out/libchangeset_c.a "$heap" -lsqlite3 -o "$made/bench"
+    crates/changeset_c/out/libchangeset_c.a "$heap" -lsqlite3 -o "$work/bench"
 
 echo "$(nproc) processors, $(sed -n 's/^model name[^:]*: //p' /proc/cpuinfo | head -n 1)," \
     "SQLite $(dpkg-query -W -f '${Version}' libsqlite3-0), load before: $(cut -d ' ' -f 1 /proc/loadavg)"
 echo
 # a job alone prints no table
 if [ $# -gt 1 ]; then
-    $UNDER "$made/bench" "$@"
+    $UNDER "$work/bench" "$@"
     exit
 fi
 {
-    $UNDER "$made/bench" "$@" || echo "$?" >"$made/status"
-} | tee "$made/table"
-[ ! -e "$made/status" ] || fail "the comparison ends with status $(cat "$made/status")"
-grep -q '^| .* [0-9]' "$made/table" || fail 'nothing was compared'
+    $UNDER "$work/bench" "$@" || echo "$?" >"$work/status"
+} | tee "$work/table"
+[ ! -e "$work/status" ] || fail "the comparison ends with status $(cat "$work/status")"
+grep -q '^| .* [0-9]' "$work/table" || fail 'nothing was compared'

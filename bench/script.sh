@@ -5,23 +5,12 @@
 # with `histories` all of them. SIZES has the sizes of the histories. The program is built first where it isn't; RT names the
 # prover's command where it isn't `rt`. PROGRAM names a built one.
 set -eu
-fail() {
-    echo "script.sh: $1" >&2
-    exit 1
-}
-
-cd "$(dirname "$0")/.."
-: "${RT:=rt}"
+. "$(dirname "$0")/../checks/begin.sh"
 : "${PROGRAM:=crates/rb_run/out/rb_run}"
 : "${SIZES:=1000 10000 100000}"
 SINGLY='script --capacity 16777216 --batch 1 --window 64'
 
-for package in gcc libc6-dev libsqlite3-dev; do
-    dpkg -s "$package" >/dev/null 2>&1 || apt-get install -y "$package" >&2
-done
-
-work="$(mktemp -d)"
-trap 'rm -rf "$work"' EXIT
+installs gcc libc6-dev libsqlite3-dev
 gcc -O2 -Wall -Wextra bench/script/*.c bench/apply/measure.c -lsqlite3 -o "$work/lines"
 [ -x "$PROGRAM" ] || (cd crates/rb_run && "$RT" run -- script </dev/null >&2)
 

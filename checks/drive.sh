@@ -4,12 +4,9 @@
 # and NAME.status its status, where it isn't 0. NAME.fault is the line after `rb_run: ` where it ends without a report. One
 # line for each.
 #   sh checks/drive.sh        needs the program as `rt run` leaves it (README.md)
-cd "$(dirname "$0")/.." || exit 2
+. "$(dirname "$0")/begin.sh"
 program=crates/rb_run/out/rb_run
-[ -x "$program" ] || { echo "drive.sh: no program at $program: see README.md" >&2; exit 2; }
-work=$(mktemp -d) || exit 2
-trap 'rm -rf "$work"' EXIT
-count=0 bad=0
+[ -x "$program" ] || fail "no program at $program: see README.md" 2
 
 # first FILE OTHER: the first line of the file; the other text if there is no such file
 first() {
@@ -57,7 +54,4 @@ for input in examples/drives/*.drive crates/rb_drive_cases/data/*.drive "$most.d
     fi
 done
 echo "$count drives, $bad bad"
-if [ "$count" -eq 1 ] || [ "$bad" -ne 0 ]; then
-    echo "drive.sh: $bad of $count drives are bad" >&2
-    exit 1
-fi
+[ "$count" -gt 1 ] && [ "$bad" -eq 0 ] || fail "$bad of $count drives are bad"

@@ -17,7 +17,8 @@ program must be there as `rt run` leaves it (README.md); the variable PROGRAM na
 | `opened-..-N` | one publisher and deliveries of up to 16 entries, which N threads apply; a changeset conflicts |
 | `recorded-..`, `sqlite-..` | one publisher with a history that SQLite recorded; the rows are those that SQLite had |
 | `bad-..` | a line of no form, first, in the middle or last |
-| `drive-two` | an INSERT, and an UPDATE of its row |
+| `drive-two`, `drive-two-N` | an INSERT, and an UPDATE of its row, by one and by N appliers |
+| `drive-faults-..` | a conflict, a faulty line, no changeset |
 | the others | limits |
 
 Those of REPLICAS are driven with a replica too. What it must have comes from the rows of the report: each row's key is
@@ -227,6 +228,13 @@ def opened(kind, appliers):
                  dict(options, appliers=appliers))
 
 
+def lone_delete():
+    """a DELETE of a row that isn't there"""
+    head = header((b't', b'\x01\x00'))
+    delete = head + b'\x09\x00' + integer(1) + string(3, b'x')
+    return Drive('drive-faults-conflict', [head], [(0, delete)], {})
+
+
 def recorded():
     """the histories that SQLite recorded, each with the rows that SQLite had"""
     for name, tables, texts, rows in histories.histories():
@@ -251,8 +259,12 @@ def limits():
         givens = [(0, row(number)) for number in range(6)] + [(0, b'P')]
         yield Drive('one-more-than-the-capacity-%d' % subscribers, [head], givens,
                     {'subscribers': subscribers, 'capacity': 5, 'intake': 1}, [6])
-    yield Drive('drive-two', [head], [(0, row(1)), (0, head + b'\x17\x00' + integer(1) + string(3, b'x') + b'\x00'
-                                                   + string(3, b'y'))], {})
+    update = head + b'\x17\x00' + integer(1) + string(3, b'x') + b'\x00' + string(3, b'y')
+    yield Drive('drive-two', [head], [(0, row(1)), (0, update)], {})
+    for appliers in (4, 16):
+        yield Drive('drive-two-%d' % appliers, [head], [(0, row(1)), (0, update)], {'appliers': appliers})
+    yield Drive('drive-faults-faulty', [head], [(0, row(1)), (1, b'P')], {}, [1])
+    yield Drive('drive-faults-nothing', [head], [], {})
     yield Drive('sixty-four-publishers', [head], [(number, row(number)) for number in range(64)], {'intake': 1})
     yield Drive('the-last-publisher-alone', [head], [(63, row(number)) for number in range(8)], {'subscribers': 2})
     yield Drive('no-line', [], [], {})
@@ -272,6 +284,7 @@ def all_drives():
     made += [faulty(kind) for kind in FAULTS] + list(limits())
     for drive in made:
         yield files_of(drive, 0)
+    yield files_of(lone_delete(), 3)
     for kind in CONFLICTS:
         for number in (1, 2, 3):
             yield files_of(conflict(kind, number), 3)

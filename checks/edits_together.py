@@ -1,5 +1,5 @@
 #!/usr/bin/env python3
-"""Tries edits of crates/NAME/on-demand many at a time, one in each source file, in one check of a copy of the crate.
+"""Tries edits of crates/NAME/on-demand.edits many at a time, one in each source file, in one check of a copy of the crate.
 
     python3 checks/edits_together.py NAME..
 
@@ -16,21 +16,22 @@ import subprocess
 import sys
 import tempfile
 
+from edit_list import edits_of
+
 TOP = os.path.join(os.path.dirname(os.path.abspath(__file__)), '..')
 
 
-def edit_of(path):
+def parts_of(edit):
     """the file of an edit, and its pairs of old and new text"""
     name, old, pairs = None, None, []
-    with open(path) as f:
-        for line in f:
-            word, _, text = line.rstrip('\n').partition(': ')
-            if word == 'file':
-                name = text
-            elif word == 'old':
-                old = text
-            elif word == 'new':
-                pairs.append((old, text))
+    for line in edit.split('\n'):
+        word, _, text = line.partition(': ')
+        if word == 'file':
+            name = text
+        elif word == 'old':
+            old = text
+        elif word == 'new':
+            pairs.append((old, text))
     return name, pairs
 
 
@@ -60,8 +61,7 @@ def unproved(crate):
 def tried(crate, edits):
     """tries edits of different files at once, and returns how many were refused"""
     kept, stands = {}, {}
-    for edit in edits:
-        name, pairs = edit_of(os.path.join(crate, 'on-demand', edit))
+    for edit, name, pairs in edits:
         path = os.path.join(crate, name)
         with open(path) as f:
             source = f.read()
@@ -100,15 +100,13 @@ def main():
     try:
         subprocess.run(['git', 'clone', '-q', TOP, work + '/clone'], check=True)
         for name in sys.argv[1:]:
-            crate = os.path.join(work, 'clone', 'crates', name)
-            folder = os.path.join(crate, 'on-demand')
-            found = sorted(os.listdir(folder)) if os.path.isdir(folder) else []
-            if not found:
-                sys.exit('edits_together.py: crates/%s/on-demand has no edit' % name)
+            found = edits_of(work + '/clone', name)
             files = collections.defaultdict(list)
-            for edit in found:
-                files[edit_of(os.path.join(folder, edit))[0]].append(edit)
+            for edit, text in found.items():
+                file, pairs = parts_of(text)
+                files[file].append((edit, file, pairs))
             count += len(found)
+            crate = os.path.join(work, 'clone', 'crates', name)
             while any(files.values()):
                 refused += tried(crate, [edits.pop(0) for edits in files.values() if edits])
     finally:

@@ -2,19 +2,13 @@
 # Lists the source files, for who looks for a place in the code: for each crate what the first `//!` lines of its root say,
 # then each file of src/ with the first sentence of its own. A file without such a line is an error.
 #   sh checks/files.sh [CRATE..]      all crates where none is named
-cd "$(dirname "$0")/.." || exit 2
+. "$(dirname "$0")/begin.sh"
 [ $# -gt 0 ] || set -- $(ls crates)
-[ $# -gt 0 ] || {
-    echo 'files.sh: no crate was found' >&2
-    exit 2
-}
+[ $# -gt 0 ] || fail 'no crate was found' 2
 for crate; do
     root=crates/$crate/src/lib.rt
     [ -f "$root" ] || root=crates/$crate/src/main.rt
-    [ -f "$root" ] || {
-        echo "files.sh: $crate has no src/lib.rt and no src/main.rt" >&2
-        exit 2
-    }
+    [ -f "$root" ] || fail "$crate has no src/lib.rt and no src/main.rt" 2
     echo "$crate"
     # the root comes first: its first paragraph as it stands. Of each other file the first sentence, on one line.
     find "crates/$crate/src" -name '*.rt' ! -path "$root" | LC_ALL=C sort | sed "1i\\$root" | tr '\n' '\0' |

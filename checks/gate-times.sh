@@ -5,10 +5,8 @@
 # processes once a second, so what it prints is up to a second short for each of them.
 #   sh checks/gate-times.sh [COMMAND..]        runs `rt ci` where no command is given; needs Linux
 # RT names the prover's command where it isn't `rt`.
-cd "$(dirname "$0")/.." || exit 2
-[ $# -gt 0 ] || set -- "${RT:-rt}" ci
-work=$(mktemp -d) || exit 2
-trap 'rm -rf "$work"' EXIT
+. "$(dirname "$0")/begin.sh"
+[ $# -gt 0 ] || set -- "$RT" ci
 crates=$(sed -n 's/^\([a-z_]*\).*:.*/\1/p' crates.txt)
 begun=$(date +%s)
 
@@ -58,10 +56,7 @@ status=$?
 [ "$status" -eq 0 ] || echo "gate-times.sh: the command ended with status $status" >&2
 touch "$work/over"
 wait $watcher
-if [ ! -s "$work/seen" ]; then
-    echo 'gate-times.sh: no process of the prover or of a crate was seen' >&2
-    exit 1
-fi
+[ -s "$work/seen" ] || fail 'no process of the prover or of a crate was seen'
 
 awk -v edits="${EDITS:-0}" -v ticks="$(getconf CLK_TCK)" -v clock=$(($(date +%s) - begun)) '
     !($1 in spent) { order[++count] = $1 }

@@ -3,28 +3,10 @@
 # and of NULL, and the exports do what it says. It prints a line for each, and ends with status 1 where one fails.
 #   sh checks/header.sh        needs gcc, g++ and what `rt lib` leaves (docs/C.md)
 # RT names the prover's command where it isn't `rt`.
-cd "$(dirname "$0")/.." || exit 2
-: "${RT:=rt}"
-fail() {
-    echo "header.sh: $1" >&2
-    exit "$2"
-}
-
+. "$(dirname "$0")/begin.sh"
 library=crates/changeset_c/out/libchangeset_c.a
 [ -e $library ] || fail "no $library: see docs/C.md" 2
-heap="$(dirname "$($RT doc)")/c/liblibc_c.a"
-[ -e "$heap" ] || fail "no $heap: the command $RT names no toolchain" 2
-work=$(mktemp -d) || exit 2
-trap 'rm -rf "$work"' EXIT
-count=0 bad=0
-
-# says NAME COMMAND..: prints a check's line
-says() {
-    name=$1
-    shift
-    count=$((count + 1))
-    if "$@"; then echo "ok $name"; else echo "FAILED $name"; bad=$((bad + 1)); fi
-}
+find_heap
 
 # warns COMMAND..: the compiler refuses a file for a warning
 warns() {
@@ -57,4 +39,4 @@ says 'NULL gets a warning' warns gcc -std=c99 $strict -c "$work/null.c" -o "$wor
 says 'NULL for texts gets a warning' warns gcc -std=c99 $strict -c "$work/no-texts.c" -o "$work/o"
 says 'the exports, from C' "$work/c"
 says 'the exports, from C++' "$work/cpp"
-[ $bad -eq 0 ] || fail "$bad of $count checks failed" 1
+none_failed checks

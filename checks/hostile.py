@@ -24,7 +24,7 @@ TOP = os.path.normpath(os.path.join(os.path.dirname(os.path.abspath(__file__)), 
 PROGRAM = os.path.join(TOP, os.environ.get('PROGRAM', 'crates/rb_run/out/rb_run'))
 CASES = os.path.join(TOP, 'crates/rb_cases/data')
 DRIVES = os.path.join(TOP, 'crates/rb_drive_cases/data')
-READ, FULL, NONE = 'read fault: Input/output error', 'write fault: No space left on device', 'write fault: '
+READ, FULL, NONE = 'read fault\nInput/output error', 'write fault\nNo space left on device', 'write fault\n'
 SHIM = None
 
 
@@ -39,7 +39,7 @@ def words_of(folder, name):
 
 
 def ran(words, given, **faults):
-    """status, output and the line on standard error without `rb_run: `"""
+    """status, output and what standard error says"""
     env = dict(os.environ, **{name: str(value) for name, value in faults.items()})
     if faults:
         env['LD_PRELOAD'] = SHIM
@@ -49,14 +49,15 @@ def ran(words, given, **faults):
 
 
 def why_not(got, status, out, line):
-    """what is wrong with a run: `line` begins what standard error says, and is None where it says nothing"""
+    """what is wrong with a run: `line` begins what standard error says, in two lines where the system says why; it is
+    None where it says nothing"""
     if got[0] != status:
         return 'status %d: %s' % (got[0], got[2][:100])
     if got[1] != out:
         return 'out ends in %r and not in %r' % (got[1][-30:], out[-30:])
     if (line is None) != (got[2] == '') or not got[2].startswith('rb_run: ' + line if line is not None else ''):
         return 'err is %r' % got[2][:100]
-    if line is not None and got[2].count('\n') != 1:
+    if line is not None and got[2].count('\n') != line.count('\n') + 1:
         return 'err has %d lines' % got[2].count('\n')
     return ''
 
@@ -191,8 +192,8 @@ def closed(words, redirections, status, line):
 
 def input_checks(checks):
     checks.each('input has no end', endless, [
-        (['script'], b'\n' * 65536, 1, b'', 'script too long: more than 16777216 bytes'),
-        (['script'], b'x' * 65536, 1, b'', 'script too long: more than 16777216 bytes'),
+        (['script'], b'\n' * 65536, 1, b'', 'script too long'),
+        (['script'], b'x' * 65536, 1, b'', 'script too long'),
         (['drive'], b'\n' * 65536, 1, b'', 'line 1'),
         (['drive'], b'x' * 65536, 1, b'', 'line 1'),
         (['drive'], b'changeset 0 -\n' * 4096, 1, b'', 'line 65537')])
@@ -203,10 +204,10 @@ def input_checks(checks):
     all_words = (['script'], ['drive'], ['drive', '--replica', 'r.db'], ['show'])
     checks.each('descriptors are closed', closed, [
         (words, how, 1, 'rb_run: ' + line) for words in all_words
-        for how, line in (('<&- 2>ERR', 'read fault: ' + bad), ('<&- >&- 2>ERR', 'read fault: ' + bad))] + [
-        (['drive'], '</dev/null >&- 2>ERR', 1, 'rb_run: write fault: ' + bad),
-        (['drive', '--replica', 'r.db'], '</dev/null >&- 2>ERR', 1, 'rb_run: write fault: ' + bad),
-        (['--help'], '>&- 2>ERR', 1, 'rb_run: write fault: ' + bad),
+        for how, line in (('<&- 2>ERR', 'read fault\n' + bad), ('<&- >&- 2>ERR', 'read fault\n' + bad))] + [
+        (['drive'], '</dev/null >&- 2>ERR', 1, 'rb_run: write fault\n' + bad),
+        (['drive', '--replica', 'r.db'], '</dev/null >&- 2>ERR', 1, 'rb_run: write fault\n' + bad),
+        (['--help'], '>&- 2>ERR', 1, 'rb_run: write fault\n' + bad),
         (['drive'], '</dev/null >/dev/null 2>&-', 0, ''), (['drive'], '<&- >&- 2>&-', 1, ''),
         (['drive', '--replica', 'r.db'], '<&- >&- 2>&-', 1, ''), (['nonsense'], '</dev/null 2>&-', 2, ''),
         (['script'], '<&- >&- 2>&-', 1, '')])

@@ -3,42 +3,17 @@
 #   sh checks/leaks.sh        needs gcc, what `rt run` and `rt lib` leave (docs/C.md and README.md), and `rt test` in
 #                             crates/rb_threads
 # RT names the prover's command where it isn't `rt`.
-cd "$(dirname "$0")/.." || exit 2
-: "${RT:=rt}"
+. "$(dirname "$0")/begin.sh"
 program=crates/rb_run/out/rb_run library=crates/changeset_c/out/libchangeset_c.a
 tests=crates/rb_threads/out/rb_threads_tests
-fail() {
-    echo "leaks.sh: $1" >&2
-    exit "$2"
-}
-
 for made in $program $library $tests; do
     [ -e $made ] || fail "no $made: see README.md" 2
 done
-work=$(mktemp -d) || exit 2
-trap 'rm -rf "$work"' EXIT
-count=0 bad=0
-
-# the toolchain's three functions between the library and malloc
-heap="$(dirname "$($RT doc)")/c/liblibc_c.a"
-[ -e "$heap" ] || fail "no $heap: the command $RT names no toolchain" 2
+find_heap
 gcc -O2 -Wall -Wextra -I include checks/leaks.c checks/count.c $library "$heap" -o "$work/leaks" &&
     gcc -O2 -Wall -Wextra -shared -fPIC checks/count.c -o "$work/count.so" || exit 2
 
-# told NAME COMMAND..: prints a check's line.
-told() {
-    name=$1
-    shift
-    count=$((count + 1))
-    if "$@"; then
-        echo "ok $name"
-    else
-        echo "FAILED $name"
-        bad=$((bad + 1))
-    fi
-}
-
-told 'the exports give back what they take' "$work/leaks"
+says 'the exports give back what they take' "$work/leaks"
 
 # all_kinds ROUNDS: a script whose rounds apply a row and an update of it, meet a conflict twice in a subscription that lacks the row,
 # and make three faults and other refusals
@@ -77,11 +52,11 @@ measure() {
     echo "$1, $2 rounds, status $?: $(cat "$work/err")"
     left=$(sed -n 's/^in use \([0-9]*\),.*/\1/p' "$work/err")
     most=$(sed -n 's/.*at most \([0-9]*\),.*/\1/p' "$work/err")
-    told 'the program allocates by malloc' test "${most:-0}" -gt 0
+    says 'the program allocates by malloc' test "${most:-0}" -gt 0
 }
 
 # have NUMBER BEGINNING: so many answers begin so.
-have() { told "$1 answers '$2'" test "$(grep -c "^$2" "$work/out")" -eq "$1"; }
+have() { says "$1 answers '$2'" test "$(grep -c "^$2" "$work/out")" -eq "$1"; }
 
 measure all_kinds 100
 left_of_100=$left
@@ -90,23 +65,23 @@ have 2000 accepted
 have 2000 floor
 have 2000 'refused Conflict'
 have 3000 fault
-told 'as much in use at the end of both' test -n "$left" -a "$left" = "$left_of_100"
+says 'as much in use at the end of both' test -n "$left" -a "$left" = "$left_of_100"
 
 # a few pieces, changes of each kind, conflicts and faults are far below 1 MB
 for script in nothing_kept all_kinds; do
     measure $script 1
-    told 'a few small changesets take less than 1,000,000 bytes' test -n "$most" -a "$most" -lt 1000000
+    says 'a few small changesets take less than 1,000,000 bytes' test -n "$most" -a "$most" -lt 1000000
 done
 
 measure nothing_kept 100
 left_of_100=$left most_of_100=$most
 measure nothing_kept 1000
-told 'as much in use at the end of both' test -n "$left" -a "$left" = "$left_of_100"
-told 'as much in use at most' test -n "$most" -a "$most" = "$most_of_100"
+says 'as much in use at the end of both' test -n "$left" -a "$left" = "$left_of_100"
+says 'as much in use at most' test -n "$most" -a "$most" = "$most_of_100"
 
 # entries at both ends of the longest sequence: two segments of 1.5 MB are made, and not all 256
 COUNT_TELL=1 LD_PRELOAD="$work/count.so" "$tests" cells::the_longest_sequence >"$work/out" 2>"$work/err"
 most=$(sed -n 's/.*at most \([0-9]*\),.*/\1/p' "$work/err")
 echo "the longest sequence, status $?: $(cat "$work/err")"
-told 'two entries far apart take less than 4,000,000 bytes' test -n "$most" -a "${most:-0}" -lt 4000000
-[ $bad -eq 0 ] || fail "$bad of $count checks failed" 1
+says 'two entries far apart take less than 4,000,000 bytes' test -n "$most" -a "${most:-0}" -lt 4000000
+none_failed checks

@@ -14,29 +14,12 @@
 # RT names the prover's command where it isn't `rt`. With EVERY=1 all cases run over AddressSanitizer and in valgrind;
 # else each fourth and each 20th.
 # shellcheck disable=SC2086 # several variables hold words of the compiler or of the program
-cd "$(dirname "$0")/.." || exit 2
-: "${RT:=rt}" "${EVERY:=20}"
-fail() {
-    echo "library.sh: $1" >&2
-    exit "$2"
-}
-
+. "$(dirname "$0")/begin.sh"
+: "${EVERY:=20}"
 library=crates/broker_c/out/libbroker_c.a
 [ -e $library ] || fail "no $library: see examples/broker/run.c" 2
-heap="$(dirname "$($RT doc)")/c/liblibc_c.a"
-[ -e "$heap" ] || fail "no $heap: the command $RT names no toolchain" 2
+find_heap
 command -v valgrind >/dev/null || fail 'no command valgrind' 2
-work=$(mktemp -d) || exit 2
-trap 'rm -rf "$work"' EXIT
-count=0 bad=0
-
-# says NAME COMMAND..: prints a check's line
-says() {
-    name=$1
-    shift
-    count=$((count + 1))
-    if "$@"; then echo "ok $name"; else echo "FAILED $name"; bad=$((bad + 1)); fi
-}
 
 # warns FILE: the compiler refuses a file for a warning
 warns() {
@@ -81,7 +64,7 @@ says 'the example, from C++' prints examples/broker/run.output "$work/run-cpp"
 echo 'settled up to entry 1' >"$work/short.output"
 says 'the short one' prints "$work/short.output" "$work/short"
 # what follows takes minutes
-[ $bad -eq 0 ] || fail "$bad of $count checks failed" 1
+none_failed checks
 
 # builds NAME WORDS..: a program over the library
 builds() {
@@ -145,4 +128,4 @@ for script in crates/rb_cases/data/*.script; do
     [ $((number % EVERY)) -ne 0 ] || says 'the same in valgrind' answers "$case" valgrinds "$work/cases"
 done
 says 'there are cases' test $number -gt 300
-[ $bad -eq 0 ] || fail "$bad of $count checks failed" 1
+none_failed checks

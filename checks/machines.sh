@@ -58,8 +58,14 @@ is_state() {
 ok" ] || fail "$1 has no state of the origin: $found"
 }
 
-# refuses NAME STATUS TEXT: a child must end by itself with this status, and say this
+# refuses NAME STATUS TEXT: a child must end by itself within a minute with this status, and say this
 refuses() {
+    left=600
+    while runs "$1"; do
+        left=$((left - 1))
+        [ $left -gt 0 ] || fail "$1 goes on, and does not say '$3'"
+        sleep 0.1
+    done
     ended "$1"
     status=$?
     said=$(tail -n 1 "$work/$1.log")
@@ -155,3 +161,21 @@ refuses replica2 1 'a batch is not accepted: code -43'
 [ "$(sql replica2.db 'SELECT number FROM machines_at')" = "$before" ] || fail 'the file of replica 2 has changed'
 killed origin
 publish_rest
+
+# another outbox in a stream that is new, too: the numbers of the files are ahead of it. Replica 1 has a file without a
+# name, and replica 3 begins while the stream is empty.
+for server in 0 1 2; do stop server$server KILL; done
+rm -rf "$work"/server[012]
+sql origin.db ".backup '$work/origin3.db'" && rm -f "$work"/origin.db* && make_origin
+begin_servers
+begin_child replica3
+sleep 4
+publish_rest
+refuses replica3 4 "and the stream of outbox '$(sql origin.db 'SELECT name FROM machines_name')'"
+sql replica1.db 'ALTER TABLE machines_at DROP COLUMN outbox'
+begin_child replica1
+refuses replica1 4 "of outbox '', and the stream of outbox"
+begin_child replica2
+refuses replica2 4 'remove the file, and a new one reads all'
+begin origin3 "$work/origin" "$work/origin3.db" "$urls" 1 0
+refuses origin3 1 'it needs a stream of its own'

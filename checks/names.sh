@@ -2,7 +2,8 @@
 # Lists names that mean two things, a line each: a name of specs/ or proofs/ that is defined in more than one file, or
 # differs from another's only in case or in an underscore; a public type or a public function that two libraries define;
 # and a type, or another name of one, that two files of a library define. Nothing is the right answer. Not counted:
-# - the answers to goals in proofs/, and what stands in a proof by hand (Proof.antt, Send.antt), whose names the prover gives;
+# - the answers to goals in proofs/, and what stands in a proof by hand (Proof.antt, Send.antt, Sync.antt), whose names the
+#   prover gives;
 # - a type and the lemma that makes it, in one file of proofs/;
 # - the events' verbs in the five files whose names say their layer. Clauses cite them as `outcome.sent` or
 #   `outline.Places`: rb_desk's Outline, and Publishing, Outcome, Told and Moves of rb_core;
@@ -10,15 +11,10 @@
 # - functions and types of programs, of tests and of static libraries, which nobody else uses;
 # - `Tables` of cs_group, private in two files.
 #   sh checks/names.sh        ends with status 1 where it lists a name
-cd "$(dirname "$0")/.." || exit 2
+. "$(dirname "$0")/begin.sh"
 files=$(find crates \( -path '*/specs/*' -o -path '*/proofs/*' \) -name '*.antt' -not -path '*/out/*' \
-    -not -name Proof.antt -not -name Send.antt)
+    -not -name Proof.antt -not -name Send.antt -not -name Sync.antt)
 types=$(find crates -path '*/src/*' -name '*.rt' -not -path '*/out/*')
-fail() {
-    echo "names.sh: $1" >&2
-    exit "$2"
-}
-
 [ -n "$files" ] && [ -n "$types" ] || fail 'no file of specs/, proofs/ or src/ was found' 2
 # each definition's name and file
 definitions=$(
@@ -120,4 +116,4 @@ list=$(
 )
 [ -z "$list" ] && exit 0
 echo "$list" | sort
-fail "$(echo "$list" | wc -l) names mean two things" 1
+fail "$(echo "$list" | wc -l) names mean two things"

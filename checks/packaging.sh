@@ -6,26 +6,10 @@
 #                                 crates/changeset_c. Debian's packages: gcc binutils pkg-config python3
 # RT names the prover's command where it isn't `rt`.
 # shellcheck disable=SC2046 # pkg-config's words are the compiler's
-cd "$(dirname "$0")/.." || exit 2
-fail() {
-    echo "packaging.sh: $1" >&2
-    exit "$2"
-}
-
-work=$(mktemp -d) || exit 2
-trap 'rm -rf "$work"' EXIT
+. "$(dirname "$0")/begin.sh"
 for command in gcc nm pkg-config python3; do
     command -v $command >"$work/path" || fail "no command $command" 2
 done
-count=0 bad=0
-
-# says NAME COMMAND..: prints a check's line
-says() {
-    name=$1
-    shift
-    count=$((count + 1))
-    if "$@"; then echo "ok $name"; else echo "FAILED $name"; bad=$((bad + 1)); fi
-}
 
 # refuses WHY WORDS..: install.sh refuses these operands for this reason
 refuses() {
@@ -170,4 +154,4 @@ staged() {
         grep -qx 'prefix=/opt/some' "$files/gubzelk-broker.pc" && ! grep -rq -e "$work" -e "$top" "$files"
 }
 says 'files under DESTDIR' staged
-[ $bad -eq 0 ] || fail "$bad of $count checks failed" 1
+none_failed checks

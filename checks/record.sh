@@ -4,21 +4,12 @@
 #   sh checks/record.sh        needs gcc, libsqlite3-dev, sqlite3, the program as `rt run` leaves it (README.md) and the
 #                              library as `rt lib` leaves it in crates/broker_c
 # RT names the prover's command where it isn't `rt`.
-cd "$(dirname "$0")/.." || exit 2
-fail() {
-    echo "record.sh: $1" >&2
-    exit "$2"
-}
-
+. "$(dirname "$0")/begin.sh"
 program=$PWD/crates/rb_run/out/rb_run
 [ -x "$program" ] || fail "no program at $program: see README.md" 2
 library=$PWD/crates/broker_c/out/libbroker_c.a
 [ -e "$library" ] || fail "no $library: see docs/C.md" 2
-heap="$(dirname "$(${RT:-rt} doc)")/c/liblibc_c.a"
-[ -e "$heap" ] || fail "no $heap: the command ${RT:-rt} names no toolchain" 2
-work=$(mktemp -d) || exit 2
-trap 'rm -rf "$work"' EXIT
-count=0 bad=0
+find_heap
 strict='-O2 -Wall -Wextra -Werror'
 # shellcheck disable=SC2086
 gcc $strict examples/record/record.c -lsqlite3 -o "$work/record" &&
@@ -53,19 +44,19 @@ follow() {
     replicated=$?
 }
 
-says() { grep -q -e "$1" "$2"; }
+has() { grep -q -e "$1" "$2"; }
 entries() { test "$(grep -c '^turn$' script)" -eq "$1"; }
 last() { test "$(tail -n "$2" answers | head -n 1)" = "$1"; }
-equal() { test $status -eq 0 && follows && says '^rows' answers; }
-follows() { test $replicated -eq 0 && says '^one.db is equal$' story && says '^two.db is equal$' story; }
-differs() { test $replicated -eq 1 && ! says 'is equal$' story && says "two.db: table $1" replicate.err; }
-brokers() { says "brokers: $1\$" story; }
+equal() { test $status -eq 0 && follows && has '^rows' answers; }
+follows() { test $replicated -eq 0 && has '^one.db is equal$' story && has '^two.db is equal$' story; }
+differs() { test $replicated -eq 1 && ! has 'is equal$' story && has "two.db: table $1" replicate.err; }
+brokers() { has "brokers: $1\$" story; }
 nothing() { test $status -eq 1 -a $replicated -eq 1 -a ! -s script && test "$(wc -l <err)" -eq 1; }
 
 given "CREATE TABLE t (a TEXT COLLATE NOCASE PRIMARY KEY, b); INSERT INTO t VALUES ('A', 1)" \
     "BEGIN; DELETE FROM t; INSERT INTO t VALUES ('a', 1); COMMIT"
-told 'NOCASE: another case in one transaction is a fault' says '^fault .* KeyChanged' answers
-told 'replicate names the key' says "table t, key 'A': its letters change" replicate.err
+told 'NOCASE: another case in one transaction is a fault' has '^fault .* KeyChanged' answers
+told 'replicate names the key' has "table t, key 'A': its letters change" replicate.err
 told 'and begins a new broker' brokers 2
 told 'from which the replicas are equal' follows
 given "CREATE TABLE t (a TEXT COLLATE NOCASE PRIMARY KEY, b); INSERT INTO t VALUES ('A', 1)" \
@@ -74,21 +65,21 @@ told 'NOCASE: in two transactions it is not' last 'row 0 030161 0100000000000000
 told 'and the replicas are equal' equal
 given "CREATE TABLE t (a TEXT COLLATE NOCASE PRIMARY KEY, b); INSERT INTO t VALUES ('A', 1)" \
     "BEGIN; UPDATE t SET a = 'a'; UPDATE t SET a = 'A'; COMMIT"
-told 'NOCASE: there and back is a conflict' says 'refused Conflict 0 3' answers
-told 'whose key replicate names' says "table t, key 'A': conflict 3 in entries 2 to 2" replicate.err
+told 'NOCASE: there and back is a conflict' has 'refused Conflict 0 3' answers
+told 'whose key replicate names' has "table t, key 'A': conflict 3 in entries 2 to 2" replicate.err
 told 'and the replicas are equal' follows
 given "CREATE TABLE t (a TEXT PRIMARY KEY, b); INSERT INTO t VALUES ('A', 1)" \
     "BEGIN; DELETE FROM t; INSERT INTO t VALUES ('a', 1); COMMIT"
 told 'BINARY: in one transaction it is not' last 'row 0 030161 010000000000000001' 1
 
 given "CREATE TABLE t (a PRIMARY KEY, b); INSERT INTO t VALUES (1, 1.5)" "DELETE FROM t"
-told 'a REAL value is named' says 'entry 1: table t, key 1: a REAL value' err
-told 'and is a fault' says '^fault .* Real' answers
-told 'replicate leaves the table out' says 'table t is left out: a REAL value, key 1' replicate.err
+told 'a REAL value is named' has 'entry 1: table t, key 1: a REAL value' err
+told 'and is a fault' has '^fault .* Real' answers
+told 'replicate leaves the table out' has 'table t is left out: a REAL value, key 1' replicate.err
 told 'and says that it differs' differs 't differs in 1 rows (it is left out'
 given "CREATE TABLE t (a PRIMARY KEY, b); CREATE TABLE u (a PRIMARY KEY)" \
     "INSERT INTO t VALUES (1, 2), (2, 2.5); INSERT INTO u VALUES (1); INSERT INTO u VALUES (2)"
-told 'a REAL value that comes later is named' says 'table t, key 2: a REAL value' replicate.err
+told 'a REAL value that comes later is named' has 'table t, key 2: a REAL value' replicate.err
 told 'a new broker begins without its table' brokers 2
 told 'and the replicas are equal' follows
 
@@ -100,15 +91,15 @@ given "CREATE TABLE t (a INTEGER PRIMARY KEY, b UNIQUE); CREATE TABLE log (x); C
     "INSERT INTO v VALUES (1, 'x'); INSERT OR REPLACE INTO t VALUES (2, 'x'); INSERT INTO log VALUES (1);
     INSERT INTO g VALUES (2); BEGIN; UPDATE u SET n = 9 WHERE k = 'm'; UPDATE u SET n = -7 WHERE k = 'n';
     UPDATE u SET n = 2 WHERE k = 'm'; COMMIT; SELECT 1; -- end"
-told 'a table without a key is left out' says 'table log is left out: no PRIMARY KEY' err
-told 'so is one with generated columns' says 'table g is left out: generated columns' err
-told 'so is a virtual one' says 'table f is left out: virtual' err
-told 'so are rows with NULL in the key' says 'table u: 1 rows with NULL' err
+told 'a table without a key is left out' has 'table log is left out: no PRIMARY KEY' err
+told 'so is one with generated columns' has 'table g is left out: generated columns' err
+told 'so is a virtual one' has 'table f is left out: virtual' err
+told 'so are rows with NULL in the key' has 'table u: 1 rows with NULL' err
 told 'one changeset for the rows and each transaction' entries 4
 told 'triggers, views and unique indexes work' last 'row 0 010000000000000002 030178' 3
 told 'the database is only read' test "$before" = "$after"
 told 'replicate names the table without a key again' differs 'log differs in 2 rows (it is left out: no PRIMARY KEY'
-told 'and the one with generated columns' says 'one.db: table g differs in 1 rows (it is left out: generated' replicate.err
+told 'and the one with generated columns' has 'one.db: table g differs in 1 rows (it is left out: generated' replicate.err
 told 'the other tables are equal' test "$(grep -c 'table [tu] is equal' story)" -eq 4
 given "CREATE TABLE t (a PRIMARY KEY, b); INSERT INTO t VALUES (NULL, 1), (2, 2)" "UPDATE t SET b = 3"
 told 'rows with NULL in the key are named' differs 't differs in 2 rows (rows with NULL in the key are left out)'
@@ -119,31 +110,31 @@ told 'rows without a key are counted' differs 'log differs in 4 rows'
 given "CREATE TABLE t (a INTEGER PRIMARY KEY)" "BEGIN; INSERT INTO t VALUES (1); -- open
 "
 told 'an open transaction is an error' nothing
-told 'which is named' says 'ends in a transaction' err
+told 'which is named' has 'ends in a transaction' err
 given "CREATE TABLE t (a INTEGER PRIMARY KEY)" "INSERT INTO t VALUES (1); INSERT INTO t VALUES (1)"
 told 'a statement that fails is an error' nothing
-told 'which names the statement' says 'statement 2, `INSERT INTO t VALUES (1)`: UNIQUE' err
+told 'which names the statement' has 'statement 2, `INSERT INTO t VALUES (1)`: UNIQUE' err
 given "CREATE TABLE t (a INTEGER PRIMARY KEY, b)" "BEGIN; INSERT INTO t VALUES (1, 2); ROLLBACK;
     BEGIN; INSERT INTO t VALUES (3, 4); SAVEPOINT s; INSERT INTO t VALUES (5, 6); ROLLBACK TO s; COMMIT;
     SAVEPOINT q; INSERT INTO t VALUES (7, 8); INSERT INTO t VALUES (8, 8); RELEASE q; ;; DELETE FROM t WHERE a = 100"
 told 'what is rolled back or changes nothing is no entry' entries 2
 told 'the replicas agree' equal
 given "CREATE TABLE t (a INTEGER PRIMARY KEY, b)" "INSERT INTO t VALUES (1, zeroblob(8500000))"
-told 'too long a changeset is named' says 'entry 1: 8500022 bytes' err
+told 'too long a changeset is named' has 'entry 1: 8500022 bytes' err
 given "CREATE TABLE t (a INTEGER PRIMARY KEY)" "CREATE TABLE n (a PRIMARY KEY); INSERT INTO t VALUES (1)"
-told 'SQL that changes the schema is named' says 'the schema of n changed' err
+told 'SQL that changes the schema is named' has 'the schema of n changed' err
 told 'replicate begins a new broker' brokers 2
 told 'and the replicas have the new table' follows
 given "CREATE TABLE t (a INTEGER PRIMARY KEY, b); INSERT INTO t VALUES (1, 1)" "UPDATE t SET b = 2;
     BEGIN; UPDATE t SET b = 3; ALTER TABLE t ADD COLUMN c; UPDATE t SET c = 4; COMMIT; UPDATE t SET b = 5"
-told 'so is ALTER TABLE' says 'the schema of t changed: a new broker begins' replicate.err
+told 'so is ALTER TABLE' has 'the schema of t changed: a new broker begins' replicate.err
 told 'and the replicas have the new column' follows
 given "CREATE TABLE t (a PRIMARY KEY, b); INSERT INTO t VALUES (1, 1), (2, 2)" "DELETE FROM t WHERE a = 1; VACUUM; ANALYZE;
     UPDATE t SET b = 2"
 told 'VACUUM and ANALYZE change nothing' brokers 1
 told 'and the replicas are equal' equal
 given "CREATE TABLE t (a)" "INSERT INTO t VALUES (1)"
-told 'no table is an error' says 'no table is left' err
+told 'no table is an error' has 'no table is left' err
 told 'and the replicas differ' differs 't differs'
 
 while read -r kind; do
@@ -164,15 +155,16 @@ told '300 columns' equal
 # two rows swap values that a constraint keeps apart, which sqlite3changeset_apply can't do
 given "CREATE TABLE t (a INTEGER PRIMARY KEY, b UNIQUE); INSERT INTO t VALUES (1, 1), (2, 2)" "BEGIN;
     UPDATE t SET b = 3 WHERE a = 1; UPDATE t SET b = 1 WHERE a = 2; UPDATE t SET b = 2 WHERE a = 1; COMMIT"
-told 'a constraint in the way is named' says 'two.db: table t, key [12]: conflict 4: another row has a value' replicate.err
-told 'the file becomes a copy' says 'two.db: 1 batches, 2 copies' story
+told 'a constraint in the way is named' has 'two.db: table t, key [12]: conflict 4: another row has a value' replicate.err
+told 'the file becomes a copy' has 'two.db: 1 batches, 2 copies' story
 told 'and is equal' follows
 
 # a file that somebody else wrote, between two runs
 given "CREATE TABLE t (a INTEGER PRIMARY KEY, b)" "INSERT INTO t VALUES (1, 2)"
 echo 'UPDATE t SET b = b + 1;' >given.sql
 sqlite3 one.db 'DELETE FROM t' && follow
-told 'a file of another broker becomes a copy' says '^one.db: 1 batches, 1 copies' story
+told 'a file of another broker becomes a copy' has '^one.db: 1 batches, 1 copies' story
+told 'and it is said' has 'one.db: its cursor is of broker .*: it becomes a copy' replicate.err
 told 'and is equal' follows
 sqlite3 two.db 'DROP TABLE t' && follow
 told 'so does one without a table' follows
@@ -193,4 +185,4 @@ follow
 told '5,000 transactions are followed' follows
 told 'in at most 10 seconds' test $(($(date +%s) - begun)) -le 10
 
-[ $bad -eq 0 ] || fail "$bad of $count checks failed" 1
+none_failed checks

@@ -6,8 +6,12 @@ It works in the current folder. Lives of the program follow each other on one da
 random transactions, and its replicas' processes are killed at random moments (SIGKILL). A life ends by a kill too, or by the
 end of its input. After a kill each file must be whole: each transaction of the load keeps sums that are compared. After an
 end all files must have equal rows, by the program and by this one.
+
+Before that, four lives follow each other in the folder `again`, in which files stand at a number that their new broker never
+reaches. Each file must become a copy, or the program must fail, and it must say so.
 """
 import fcntl
+import glob
 import os
 import random
 import re
@@ -87,8 +91,20 @@ def rows_of(path):
     db = sqlite3.connect(path)
     db.text_factory = bytes
     names = [name.decode() for (name,) in db.execute(
-        "SELECT name FROM sqlite_schema WHERE type = 'table' AND name NOT LIKE 'sqlite_%' AND name <> 'replica_cursor'")]
+        "SELECT name FROM sqlite_schema WHERE type = 'table' AND name NOT LIKE 'sqlite_%' AND name <> 'replica_place'")]
     found = {name: sorted(db.execute('SELECT * FROM "%s"' % name), key=repr) for name in names}
+    db.close()
+    return found
+
+
+def differing(path):
+    """how many rows of a replica are no rows of the database, or the other way round, as SQLite compares them"""
+    db = sqlite3.connect('live.db')
+    db.execute('ATTACH ? AS replica', [path])
+    names = [name for (name,) in db.execute("SELECT name FROM main.sqlite_schema WHERE type = 'table'")]
+    sides = [('main', 'replica'), ('replica', 'main')]
+    found = sum(db.execute('SELECT count(*) FROM (SELECT * FROM %s.%s EXCEPT SELECT * FROM %s.%s)' % (a, name, b, name))
+                .fetchone()[0] for name in names for a, b in sides)
     db.close()
     return found
 
@@ -209,9 +225,76 @@ class Life:
         return int(found.group(2)), batches, copies
 
 
+def write(path, sql):
+    db = sqlite3.connect(path)
+    db.executescript(sql)
+    db.close()
+
+
+def place(path):
+    """the name and the number that a file has"""
+    db = sqlite3.connect(path)
+    [found] = db.execute('SELECT broker, number FROM replica_place')
+    db.close()
+    return found
+
+
+def lives(program, transactions, *said):
+    """A life over the files that are there, and what it says on standard error, of each file in turn. Returns the places of
+    the files, which are of one broker, and equal to the database."""
+    sql = ''.join('UPDATE account SET balance = balance + 1 WHERE id = %d;\n' % (1 + i) for i in range(transactions))
+    life = subprocess.run([program, 'live.db'] + REPLICAS, input=sql, capture_output=True, text=True, timeout=900)
+    if life.returncode:
+        raise Bad('status %d: %s' % (life.returncode, life.stderr))
+    places = [place(path) for path in REPLICAS]
+    name = places[0][0]
+    if not re.fullmatch('[0-9a-f]{32}', name) or {it[0] for it in places} != {name}:
+        raise Bad('the files stand at %s' % places)
+    lines = ['replicate: %s: its cursor is of %s, and this is broker %s: it becomes a copy' % (path, whose, name)
+             for path, whose in zip(REPLICAS, said)]
+    if sorted(life.stderr.splitlines()) != sorted(lines):
+        raise Bad('it says %s, and not %s' % (life.stderr, lines))
+    rows = {path: differing(path) for path in REPLICAS}
+    if any(rows.values()) or any(rows_of(path) != rows_of('live.db') for path in REPLICAS):
+        raise Bad('rows that differ: %s' % rows)
+    return places
+
+
+def begins_again(program):
+    """Starts the program over the files of a longer life, twice as they are, once with files that have no name, and once with
+    one that can't become a copy."""
+    write('live.db', SCHEMA)
+    first = lives(program, 300)
+    second = lives(program, 3, *('broker ' + name for name, _ in first))
+    third = lives(program, 4, *('broker ' + name for name, _ in second))
+    if not min(first)[1] > 300 > 20 > max(second + third, key=lambda it: it[1])[1]:
+        raise Bad('the files stand at %s, %s and %s' % (first, second, third))
+    # a file of a program that stored no name, one whose name was a number, and one whose number nobody reaches
+    write('one.db', 'DROP TABLE replica_place; CREATE TABLE replica_cursor AS SELECT 5000 AS number')
+    write('two.db', 'DROP TABLE replica_place; CREATE TABLE replica_cursor AS SELECT 77 AS broker, 5000 AS number')
+    write('three.db', 'UPDATE replica_place SET number = 5000')
+    fourth = lives(program, 5, *['a broker without a name'] * 2, 'broker ' + third[0][0])
+    # a file with a log keeps the size of its pages, so no copy of this database can be made in it
+    for path in glob.glob('two.db*'):
+        os.remove(path)
+    write('two.db', "PRAGMA page_size = 512; PRAGMA journal_mode = WAL; CREATE TABLE replica_place AS SELECT '%s' AS broker,"
+          ' 5000 AS number' % fourth[0][0])
+    life = subprocess.run([program, 'live.db'] + REPLICAS, input='', capture_output=True, text=True, timeout=900)
+    said = re.search('two.db: its cursor is of broker %s, .*\n.*no copy is made' % fourth[0][0], life.stderr)
+    if life.returncode != 1 or not said or place('two.db') != (fourth[0][0], 5000):
+        raise Bad("a file that can't become a copy: status %d: %s" % (life.returncode, life.stderr))
+
+
 def main():
     program, seed, seconds = sys.argv[1], int(sys.argv[2]), float(sys.argv[3])
     dice = random.Random(seed)
+    try:
+        os.mkdir('again')
+        os.chdir('again')
+        begins_again(program)
+        os.chdir('..')
+    except Bad as why:
+        sys.exit('replicate.py: begun again: %s' % why)
     db = sqlite3.connect('live.db')
     db.executescript(SCHEMA)
     db.close()
@@ -236,6 +319,7 @@ def main():
         with open('err') as f:
             print(''.join(f.readlines()[-5:]), end='', file=sys.stderr)
         sys.exit('replicate.py: seed %d: %s' % (seed, why))
+    print('begun again over longer lives, each file became a copy or the program failed; ', end='')
     print('seed %d, %d seconds: %d transactions were fed; %d processes of replicas and %d of the broker were killed; in the'
           ' %d lives that ended by their input were %d brokers, %d batches and %d copies, and the files were equal'
           % (seed, seconds, sent, replicas, programs, equal, brokers, batches, copies))

@@ -1,12 +1,10 @@
 #!/bin/sh
 # Checks the program from outside: its statuses, what it prints on which stream, and when. One line for each check.
 #   sh checks/run.sh        needs the program as `rt run` leaves it (README.md)
-cd "$(dirname "$0")/.." || exit 2
+. "$(dirname "$0")/begin.sh"
 program=crates/rb_run/out/rb_run
-[ -x "$program" ] || { echo "run.sh: no program at $program: see README.md" >&2; exit 2; }
-work=$(mktemp -d) || exit 2
-trap 'rm -rf "$work"' EXIT
-out=$work/out err=$work/err why='' count=0 bad=0
+[ -x "$program" ] || fail "no program at $program: see README.md" 2
+out=$work/out err=$work/err why=''
 
 # run INPUT WORDS..: runs the program to its end, and keeps what it printed and its status, which is 124 where it hangs.
 run() {
@@ -33,15 +31,16 @@ fits() {
     case $(cat "$1") in $2) test "$(wc -l <"$1")" -eq 1 ;; *) false ;; esac
 }
 
+# need_fault LINE PATTERN: standard error is this line, and then the system's reason, which fits the pattern.
+need_fault() {
+    need "err is '$(head -c 200 "$err")'" test "$(head -n 1 "$err")" = "$1"
+    tail -n +2 "$err" >"$work/reason"
+    need_line reason "$2"
+}
+
 # end NAME: prints the check's line.
 end() {
-    count=$((count + 1))
-    if [ -z "$why" ]; then
-        echo "ok $1"
-    else
-        echo "FAILED $1: $why"
-        bad=$((bad + 1))
-    fi
+    judged "$1" "$why"
     why=''
 }
 
@@ -270,13 +269,13 @@ refused 'drive --replica without a file' drive --replica
 run / script
 need_status 1
 need_nothing out
-need_line err 'rb_run: read fault: ?*'
+need_fault 'rb_run: read fault' '?*'
 end 'a folder as standard input'
 
 timeout 60 "$program" script <examples/first.script >/dev/full 2>"$err"
 status=$?
 need_status 1
-need_line err 'rb_run: write fault: No space left*'
+need_fault 'rb_run: write fault' 'No space left*'
 end 'a full disk'
 
 # the answer to a last line without its end is written last of all
@@ -284,19 +283,19 @@ printf publisher >"$work/unended"
 timeout 60 "$program" script <"$work/unended" >/dev/full 2>"$err"
 status=$?
 need_status 1
-need_line err 'rb_run: write fault: No space left*'
+need_fault 'rb_run: write fault' 'No space left*'
 end 'a full disk for the last line alone'
 
 timeout 60 "$program" script --strict <examples/first.script >/dev/full 2>"$err"
 status=$?
 need_status 1
-need_line err 'rb_run: write fault: No space left*'
+need_fault 'rb_run: write fault' 'No space left*'
 end 'a full disk for a strict script'
 
 timeout 60 "$program" --help >/dev/full 2>"$err"
 status=$?
 need_status 1
-need_line err 'rb_run: write fault: ?*'
+need_fault 'rb_run: write fault' '?*'
 end '--help on a full disk'
 
 # ten million bytes, of two million lines
@@ -307,7 +306,7 @@ yes turn | head -c 10000000 >"$work/long"
 } | head -c 1 >/dev/null
 status=$(cat "$work/status")
 need_status 1
-need_line err 'rb_run: write fault: ?*'
+need_fault 'rb_run: write fault' '?*'
 end 'a closed pipe'
 
 # a line and empty ones, which have no answer
@@ -325,7 +324,7 @@ echo >>"$work/script"
 run "$work/script" script
 need_status 1
 need_text 'publisher 0'
-need_line err 'rb_run: script too long*'
+need_line err 'rb_run: script too long'
 end 'a script of 16,777,217 bytes'
 
 # Answers come while the input stays open.
@@ -393,7 +392,4 @@ need "only $(wc -l <"$out") answers" test "$(wc -l <"$out")" -eq 2000000
 need 'too slow' test $took -lt 10000
 end "10 MB of lines in less than 10 s ($took ms)"
 
-if [ $bad -gt 0 ]; then
-    echo "run.sh: $bad of $count checks failed" >&2
-    exit 1
-fi
+none_failed checks

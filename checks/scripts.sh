@@ -2,11 +2,8 @@
 # Checks that the scripts of checks/, refused/ and bench/ fail where they would test nothing. It tries each on a copy of
 # the repository with broken parts, such as a program that only exits: it must end with a status other than 0, and say why
 # on standard error. One line for each trial.
-#   sh checks/scripts.sh        needs gcc, g++, valgrind, python3, git and SQLite's library; no prover and no built program
-cd "$(dirname "$0")/.." || exit 2
-work=$(mktemp -d) || exit 2
-trap 'rm -rf "$work"' EXIT
-count=0 bad=0
+#   sh checks/scripts.sh        needs gcc, g++, valgrind, python3, git, sqlite3 and its library; no prover and no built program
+. "$(dirname "$0")/begin.sh"
 git clone -q . "$work/top" && cp -R checks refused bench examples include packaging "$work/top" && cd "$work/top" || exit 2
 program=crates/rb_run/out/rb_run
 export PROGRAM="$program" RT="$work/rt"
@@ -40,9 +37,12 @@ make "$work/kept/valgrind" "$exits"
 
 # No operand.
 fails 'edits.sh, no NAME' usage sh checks/edits.sh
+fails 'edits.sh, no SEED' 'a seed' sh checks/edits.sh --some 3
+fails 'edit_list.py, no NAME' usage python3 checks/edit_list.py .
 fails 'edits_together.py, no NAME' usage python3 checks/edits_together.py
 fails 'model.py, no script' usage python3 checks/model.py
 fails 'model.py, no such script' 'No such file' python3 checks/model.py none.script
+fails 'all.sh, another word' usage sh checks/all.sh --short
 fails 'stops.sh, no CHANGES' usage sh checks/stops.sh
 fails 'soak.sh, no SEED' usage sh checks/soak.sh
 fails 'soak.py, no SEED' usage python3 checks/soak.py
@@ -57,11 +57,17 @@ fails 'replicate/run.sh, one operand' usage sh examples/replicate/run.sh none
 fails 'install.sh, no PREFIX' usage sh packaging/install.sh
 
 # Nothing is built.
+fails 'all.sh, nothing is built' 'missing: crates/rb_run/out/rb_run (rt run), ' sh checks/all.sh
+fails 'all.sh, nothing is built for --long' 'replica_stops (rt run), ' sh checks/all.sh --long
+make checks/another.sh '#!/bin/sh'
+fails 'all.sh, a check that nothing runs' 'nothing runs checks/another.sh' sh checks/all.sh
+rm checks/another.sh
 fails 'run.sh, no program' 'no program' sh checks/run.sh
 fails 'drive.sh, no program' 'no program' sh checks/drive.sh
 fails 'drives.py, no program' 'no program' python3 checks/drives.py
 fails 'rings.py, no program' 'no program' python3 checks/rings.py
 fails 'hostile.py, no program' 'no program' python3 checks/hostile.py
+fails 'killed.sh, no program' 'no program' sh checks/killed.sh
 fails 'soak.sh, no program' 'no program' sh checks/soak.sh 1
 fails 'valgrind.sh, no program' 'no program' sh checks/valgrind.sh
 fails 'leaks.sh, no program' 'no crates' sh checks/leaks.sh
@@ -82,6 +88,7 @@ fails 'bench/machines/run.sh, no library' 'no library' sh bench/machines/run.sh
 
 # The prover's command only exits.
 fails 'edits.sh, nothing is tried' '0 of ' sh checks/edits.sh rb_run
+fails 'edits.sh --some, nothing is tried' '0 of 3 ' sh checks/edits.sh --some 3 7
 fails 'edits_together.py, nothing is tried' '0 of ' python3 checks/edits_together.py rb_run
 # other checkouts may have processes of the prover
 make "$work/bin/pgrep" '#!/bin/sh'
@@ -105,14 +112,28 @@ fails 'rings.py, a program that only exits' 'hung or differ' python3 checks/ring
 fails 'rings.py, no drive' 'no drive' python3 checks/rings.py 0
 fails 'hostile.py, a program that only exits' 'checks failed' python3 checks/hostile.py 'output fails'
 fails 'hostile.py, no check' 'checks failed' python3 checks/hostile.py 'no such name'
+fails 'killed.sh, a program that only exits' 'none was killed in the middle' sh checks/killed.sh 4
 fails 'soak.sh, a program that only exits' 'answers of' sh checks/soak.sh 1 1 200
 fails 'valgrind.sh, a valgrind that only exits' 'runs failed' env PATH="$work/kept:$PATH" sh checks/valgrind.sh
 make crates/replica_stops/out/replica_stops "$exits"
 fails 'stops.sh, a program that only exits' '0 of 12 losses' sh checks/stops.sh 2
-fails 'refused/run.sh, a program that only exits' '5 failures' sh refused/run.sh
+fails 'refused/run.sh, a program that only exits' '7 failures' sh refused/run.sh
 fails 'bench/script.sh, a program that only exits' '0 answers' sh bench/script.sh
 fails 'bench/drive/run.sh, a program that only exits' 'two reports' sh bench/drive/run.sh 1
 fails 'record.sh, no library' 'no .*libbroker_c' sh checks/record.sh
+
+# A replica, $5, that begins with a zero byte beside a log of 41 bytes, and is never taken again.
+make "$program" '#!/bin/sh
+cat >/dev/null
+[ ! -e "$5" ] || exit 1
+printf "%041d" 0 >"$5-wal"
+head -c 4096 /dev/zero >"$5"'
+fails 'killed.sh, a file that no drive takes' "a second drive doesn't take the file" sh checks/killed.sh 40
+make "$program" '#!/bin/sh
+cat >/dev/null
+printf "%042d" 0 >"$5-wal"
+head -c 4096 /dev/zero >"$5"'
+fails 'killed.sh, a log of another length' "isn't whole" sh checks/killed.sh 40
 
 # The program answers, but its malloc isn't intercepted: it has no dynamic library.
 cat >"$work/static.c" <<'END'
@@ -124,7 +145,7 @@ int main(int count, char **words) {
 }
 END
 gcc -static "$work/static.c" -o "$program" || exit 2
-fails 'refused/run.sh, malloc is not intercepted' '5 failures' sh refused/run.sh
+fails 'refused/run.sh, malloc is not intercepted' '7 failures' sh refused/run.sh
 grep -q 'no allocation was seen' "$work/out" || { echo 'FAILED: no word of allocations'; bad=$((bad + 1)); }
 
 # Tests: none, malloc isn't intercepted, one that fails by itself.
@@ -203,9 +224,12 @@ fails 'inverses.py, no histories' 'no recorded history' python3 checks/inverses.
 fails 'recorded.py, no histories' 'No such file' python3 checks/recorded.py
 rm -r examples/recorded
 fails 'recorded.py, no SQL' 'no history' python3 checks/recorded.py
-rm -r crates/rb_run/on-demand
 fails 'edits.sh, no edits' 'no edit' sh checks/edits.sh none
 fails 'edits_together.py, no edits' 'no edit' python3 checks/edits_together.py none
+printf 'edit: first\nsecond line\n' >crates/rb_run/on-demand.edits
+fails 'edit_list.py, a line that is no part of an edit' 'out of place' python3 checks/edit_list.py . rb_run
+rm crates/*/on-demand.edits
+fails 'edit_list.py, no lists' 'no crate' python3 checks/edit_list.py . --some 3 7
 fails 'files.sh, no such crate' 'no src/lib.rt' sh checks/files.sh none
 find crates -name '*.antt' | while read -r file; do : >"$file"; done
 fails 'names.sh, no definitions' 'no definition' sh checks/names.sh
@@ -213,7 +237,21 @@ fails 'embed.py, an empty proof' 'not in the program' python3 checks/embed.py
 rm -r crates
 fails 'names.sh, no files' 'no file' sh checks/names.sh
 
-if [ $bad -gt 0 ]; then
-    echo "scripts.sh: $bad of $count scripts didn't fail as they should" >&2
-    exit 1
-fi
+# Every check but one only exits, and then there is no sqlite3.
+scripts=$(grep -o '[a-z][a-z/]*/[a-z_-]*\.\(sh\|py\)' checks/all.sh)
+mkdir "$work/few" && mv checks/all.sh checks/begin.sh "$work/few" && rm -r checks && mkdir checks || exit 2
+for script in $scripts; do make "$script" '#!/bin/sh'; done
+mv "$work/few"/*.sh checks && ln -sf /usr/bin/* /bin/* "$work/few" && rm "$work/few/sqlite3" || exit 2
+for made in rb_run/out/rb_run changeset_c/out/libchangeset_c.a broker_c/out/libbroker_c.a rb_threads/out/rb_threads_tests; do
+    make "crates/$made" ''
+done
+make checks/run.sh 'echo it fails; exit 3'
+export TMPDIR="$work"
+fails 'all.sh, a check that fails' 'checks failed' sh checks/all.sh
+said=$(sed -n 's/^checks.run.sh failed [0-9]* s: //p' "$work/out")
+[ -n "$said" ] && grep -qx 'it fails' "$said" || { echo 'FAILED: no word of the check'; bad=$((bad + 1)); }
+grep -q '^checks.names.sh passed [0-9]* s$' "$work/out" || { echo 'FAILED: no word of the others'; bad=$((bad + 1)); }
+fails 'all.sh, no sqlite3' 'checks failed' env PATH="$work/few" sh checks/all.sh
+grep -q '^checks.run.sh failed [0-9]* s: no command sqlite3$' "$work/out" || { echo 'FAILED: no word of sqlite3'; bad=$((bad + 1)); }
+
+[ $bad -eq 0 ] || fail "$bad of $count scripts didn't fail as they should"

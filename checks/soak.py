@@ -11,8 +11,8 @@ their rows and what is left are shown. After each script comes a drive of 64 pub
 
 The expected answers are made along with the lines, by the rules of docs/ and without the program. A row is what the
 changesets up to the cursor give, applied one after another. It prints a line for each run, with the time and the
-greatest memory that it took, and ends with status 1 at the first answer that differs, or where a script takes more than
-MOST_KB.
+greatest memory that it took, and ends with status 1 at the first answer that differs, or where a run takes more than
+MOST_KB or hangs for an hour.
 """
 import os
 import random
@@ -28,6 +28,8 @@ TOP = os.path.normpath(os.path.join(os.path.dirname(os.path.abspath(__file__)), 
 PROGRAM = os.path.join(TOP, os.environ.get('PROGRAM', 'crates/rb_run/out/rb_run'))
 PUBLISHERS, SUBSCRIPTIONS, RUNNERS, KEYS = 64, 1024, 16, 400
 MOST_KB = int(os.environ.get('MOST_KB', 200000))
+# a run that has not ended after so many looks, a hundredth of a second apart, hangs
+MOST_LOOKS = 360000
 TABLE = bytes.fromhex('540201007400')
 SHAPE = (b't', b'\x01\x00')
 
@@ -369,11 +371,16 @@ def ran(words, lines):
         given.write(''.join(line + '\n' for line in lines).encode())
         size = given.tell()
         given.seek(0)
-        process, most, ended = subprocess.Popen([PROGRAM] + words, stdin=given, stdout=out), 0, 0
-        while not ended:
+        process, most = subprocess.Popen([PROGRAM] + words, stdin=given, stdout=out), 0
+        for _ in range(MOST_LOOKS):
             most = max(most, high_water(process.pid))
             time.sleep(0.01)
             ended, status, used = os.wait4(process.pid, os.WNOHANG)
+            if ended:
+                break
+        else:
+            process.kill()
+            sys.exit('soak.py: %s does not end' % ' '.join(words))
         process.returncode = os.waitstatus_to_exitcode(status)
         out.seek(0)
         return out.read().decode(errors='replace'), process.returncode, used.ru_utime + used.ru_stime, most, size

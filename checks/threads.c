@@ -95,8 +95,8 @@ static int run_two(const char *name, struct work *two) {
     for (int i = 0; i < 2; i++) {
         uint64_t front = 0;
         bad |= broker_front(two[i].b, &front);
-        while (two[i].applied < front && !two[i].bad) follow(&two[i]);
-        bad |= two[i].bad || two[i].placed != rounds || front != (two[i].lock ? 2 * rounds : rounds);
+        for (int turn = 0; turn < 10000000 && two[i].applied < front && !two[i].bad; turn++) follow(&two[i]);
+        bad |= two[i].bad || two[i].applied < front || two[i].placed != rounds || front != (two[i].lock ? 2 * rounds : rounds);
     }
     printf("%s: %" PRIu64 " changesets by each thread, settled up to %" PRIu64 " and %" PRIu64 ", bad %d\n", name,
            rounds, two[0].applied, two[1].applied, bad);

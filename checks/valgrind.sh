@@ -2,13 +2,10 @@
 # Runs ten scripts and five drives under valgrind: it must find no error and no lost block, and what is written must be what
 # it is without valgrind. One line for each.
 #   sh checks/valgrind.sh        needs valgrind and the program as `rt run` leaves it (README.md)
-cd "$(dirname "$0")/.." || exit 2
+. "$(dirname "$0")/begin.sh"
 program=crates/rb_run/out/rb_run
-[ -x "$program" ] || { echo "valgrind.sh: no program at $program: see README.md" >&2; exit 2; }
-command -v valgrind >/dev/null || { echo "valgrind.sh: no valgrind" >&2; exit 2; }
-work=$(mktemp -d) || exit 2
-trap 'rm -rf "$work"' EXIT
-count=0 bad=0
+[ -x "$program" ] || fail "no program at $program: see README.md" 2
+command -v valgrind >/dev/null || fail 'no valgrind' 2
 
 # words FILE: the options in it; none if there is no such file
 words() { [ ! -f "$1" ] || cat "$1"; }
@@ -26,13 +23,7 @@ watched() {
     [ $found -eq "$wanted" ] || why="status $found"
     cmp -s "$work/out" "$output" || why="${why:+$why, }another output"
     [ ! -s "$work/log" ] || why="${why:+$why, }$(head -n 2 "$work/log" | tr '\n' ' ')"
-    count=$((count + 1))
-    if [ -z "$why" ]; then
-        echo "ok $name"
-    else
-        bad=$((bad + 1))
-        echo "FAILED $name: $why"
-    fi
+    judged "$name" "$why"
 }
 
 for name in cut-everywhere.every-cut hostile-lines.lines line-bounds record-faults.faults recorded-all-types \
@@ -48,7 +39,4 @@ done
 drive=examples/drives/a-conflict
 watched 'drive a-conflict, with a replica and appliers' "$(status $drive.status)" $drive.report $drive.drive \
     drive $(words $drive.args) --appliers 4 --replica "$work/replica.db"
-if [ $bad -gt 0 ]; then
-    echo "valgrind.sh: $bad of $count runs failed" >&2
-    exit 1
-fi
+none_failed runs

@@ -80,7 +80,7 @@ static char *text(sqlite3 *db, char *sql) {
 static void copy(sqlite3 *to, const char *name, sqlite3 *from) {
     sqlite3_backup *backup = sqlite3_backup_init(to, name, from, "main");
     if (backup) sqlite3_backup_step(backup, -1), sqlite3_backup_finish(backup);
-    check(to, sqlite3_errcode(to));
+    if (sqlite3_errcode(to)) FAIL("no copy is made: %s", sqlite3_errmsg(to));
 }
 
 /* Drops what must not act while changesets are applied: triggers, and unique indexes that aren't of a table itself. */

@@ -1,7 +1,7 @@
 #!/bin/sh
 # Refuses each allocation of the program in turn, for five scripts and two drives. The program must then say that memory
-# ran out, with status 1 and the answers to some first lines of the script, or the beginning of a drive's report; or do
-# without, and answer all of them, or write the whole report.
+# ran out, with status 1 and the answers to some first lines of the script, of which a last one `text ..` may be cut, or the
+# beginning of a drive's report; or do without, and answer all of them, or write the whole report.
 #   sh refused/run.sh        needs gcc, and the program as `rt run` leaves it (README.md)
 . "$(dirname "$0")/shim.sh"
 program=crates/rb_run/out/rb_run
@@ -12,7 +12,7 @@ judge() {
         echo passed
     elif [ "$1" -eq 1 ] && [ "$(cat "$work/err")" = "rb_run: out of memory" ] &&
         head -c "$(wc -c <"$work/out")" "$work/all" | cmp -s - "$work/out" &&
-        [ -z "$(tail -c 1 "$work/out")" ]; then
+        { [ -z "$(tail -c 1 "$work/out")" ] || tail -n 1 "$work/out" | grep -q '^text '; }; then
         echo told
     fi
 }
@@ -32,7 +32,7 @@ judge_drive() {
         echo passed
     elif [ "$1" -eq 1 ] && [ ! -s "$work/out" ] && grep -qx 'rb_run: \(out of memory\|stopped\)' "$work/err"; then
         echo told
-    elif [ "$1" -eq 1 ] && [ "$(cat "$work/err")" = 'rb_run: write fault: out of memory' ] &&
+    elif [ "$1" -eq 1 ] && [ "$(cat "$work/err")" = "$(printf 'rb_run: write fault\nout of memory')" ] &&
         head -c "$(wc -c <"$work/out")" "$work/all" | cmp -s - "$work/out"; then
         echo told
     fi

@@ -1,18 +1,8 @@
-# What run.sh and tests.sh share. It goes to the repository's top and builds the shim.
-name=${0##*/}
-
-# fail WHY STATUS: ends the script
-fail() {
-    echo "$name: $1" >&2
-    exit "$2"
-}
-
-cd "$(dirname "$0")/.." || exit 2
-work=$(mktemp -d) || exit 2
-trap 'rm -rf "$work"' EXIT
+# What run.sh and tests.sh share. It builds the shim.
+. "$(dirname "$0")/../checks/begin.sh"
 gcc -O2 -Wall -Wextra -fno-omit-frame-pointer -fno-optimize-sibling-calls -shared -fPIC -o "$work/refuse.so" \
     refused/refuse.c -ldl || fail 'refuse.c is not compiled' 2
-bad=0 all=0 all_told=0
+all=0 all_told=0
 
 # wrong WHAT: something isn't as it must be
 wrong() {
@@ -22,8 +12,8 @@ wrong() {
 
 # summary: the script's end
 summary() {
-    [ "$bad" -eq 0 ] || fail "$bad failures" 1
-    [ "$all_told" -gt 0 ] || fail "no refusal was reported, of $all" 1
+    [ "$bad" -eq 0 ] || fail "$bad failures"
+    [ "$all_told" -gt 0 ] || fail "no refusal was reported, of $all"
 }
 
 # in_turn LABEL JUDGE INPUT COMMAND..: runs the command on the input once for each allocation that it asks for, which is

@@ -3,20 +3,9 @@
 # the checkout with what was proved there, to which it adds one crate, replay.in. RT names the prover's command where it
 # isn't `rt`.
 set -eu
-fail() {
-    echo "run.sh: $1" >&2
-    exit 1
-}
+. "$(dirname "$0")/../../checks/begin.sh"
+installs gcc libc6-dev libsqlite3-dev
 
-cd "$(dirname "$0")/../.."
-: "${RT:=rt}"
-
-for package in gcc libc6-dev libsqlite3-dev; do
-    dpkg -s "$package" >/dev/null 2>&1 || apt-get install -y "$package" >&2
-done
-
-work="$(mktemp -d)"
-trap 'rm -rf "$work"' EXIT
 mkdir "$work/crates"
 for crate in cs_model cs_parse cs_apply; do cp -a "crates/$crate" "$work/crates"; done
 grep -E '^(cs_model|cs_parse|cs_apply):' crates.txt >"$work/crates.txt"

@@ -5,22 +5,11 @@
 # a command that gives all a priority, as `nice -n -20`, and ROUNDS how often all is measured (the least is told). With words,
 # as `integers 10000 texts 1000`, it measures those inputs alone.
 set -eu
-fail() {
-    echo "split.sh: $1" >&2
-    exit 1
-}
-
-cd "$(dirname "$0")/../.."
-: "${RT:=rt}"
+. "$(dirname "$0")/../../checks/begin.sh"
 : "${PRIORITY:=}"
 : "${ROUNDS:=5}"
+installs gcc libc6-dev libsqlite3-dev
 
-for package in gcc libc6-dev libsqlite3-dev; do
-    dpkg -s "$package" >/dev/null 2>&1 || apt-get install -y "$package" >&2
-done
-
-work="$(mktemp -d)"
-trap 'rm -rf "$work"' EXIT
 mkdir "$work/crates"
 for crate in cs_model cs_parse cs_apply par_apply; do cp -a "crates/$crate" "$work/crates"; done
 cp HANDLES "$work"

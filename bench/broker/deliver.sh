@@ -6,15 +6,7 @@
 # runs none of it.
 #   bash bench/broker/deliver.sh
 set -eu
-fail() {
-    echo "deliver.sh: $1" >&2
-    exit 1
-}
-
-cd "$(dirname "$0")/../.."
-: "${RT:=rt}"
-work="$(mktemp -d)"
-trap 'rm -rf "$work"' EXIT
+. "$(dirname "$0")/../../checks/begin.sh"
 git clone -q . "$work/clone"
 crate="$work/clone/crates/bench_deliver"
 mkdir -p "$crate/src" "$crate/proofs/measured"

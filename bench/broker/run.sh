@@ -4,19 +4,9 @@
 # program (main.rt.in) as one more crate; RT names the prover's command where it isn't `rt`. The gate runs none of it.
 #   bash bench/broker/run.sh
 set -eu
-fail() {
-    echo "run.sh: $1" >&2
-    exit 1
-}
-
-cd "$(dirname "$0")/../.."
-: "${RT:=rt}"
+. "$(dirname "$0")/../../checks/begin.sh"
 : "${RUNS:=5}"
-for package in gcc libc6-dev; do
-    dpkg -s "$package" >/dev/null 2>&1 || apt-get install -y "$package" >&2
-done
-work="$(mktemp -d)"
-trap 'rm -rf "$work"' EXIT
+installs gcc libc6-dev
 git clone -q . "$work/clone"
 crate="$work/clone/crates/bench_broker"
 mkdir -p "$crate/src" "$crate/proofs/measured" "$crate/proofs/send"

@@ -4,17 +4,9 @@
 # that they stand on are proved first, which takes an hour where nothing is kept.
 #     bash bench/calls/run.sh [desk|world]      PRIORITY is a command before the program, as `chrt -f 50`; SIZES has the sizes
 set -eu
-fail() {
-    echo "run.sh: $1" >&2
-    exit 1
-}
-
-cd "$(dirname "$0")/../.."
-: "${RT:=rt}"
+. "$(dirname "$0")/../../checks/begin.sh"
 : "${PRIORITY:=}"
 : "${SIZES:=1000 10000 100000 1000000}"
-work="$(mktemp -d)"
-trap 'rm -rf "$work"' EXIT
 git clone -q . "$work/clone"
 
 # program NAME SOURCE CRATE: builds the program, which uses the crate and all that it uses

@@ -5,25 +5,14 @@
 # for each subscriber anew. PRIORITY is a command that gives both a priority, as `chrt -r 50`, on a machine that does other
 # work. With numbers, as `1 2`, it measures those rows alone.
 set -eu
-fail() {
-    echo "run.sh: $1" >&2
-    exit 1
-}
-
-cd "$(dirname "$0")/../.."
-: "${RT:=rt}"
+. "$(dirname "$0")/../../checks/begin.sh"
 : "${PROGRAM:=crates/rb_run/out/rb_run}"
 : "${RUNS:=5}"
 : "${EACH:=}"
 : "${PRIORITY:=}"
 BATCH=16
+installs gcc libc6-dev libsqlite3-dev
 
-for package in gcc libc6-dev libsqlite3-dev; do
-    dpkg -s "$package" >/dev/null 2>&1 || apt-get install -y "$package" >&2
-done
-
-work="$(mktemp -d)"
-trap 'rm -rf "$work"' EXIT
 for name in input replicas phases; do
     gcc -O2 -Wall -Wextra "bench/drive/$name.c" bench/fields.c bench/apply/measure.c -lsqlite3 -o "$work/$name"
 done

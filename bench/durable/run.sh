@@ -4,23 +4,15 @@
 # then what a commit writes and syncs (by strace). FOLDER says where the files lie: a disk, and no memory. PROGRAM is a
 # built program, RUNS how often each is run.
 set -eu
-fail() {
-    echo "run.sh: $1" >&2
-    exit 1
-}
-
-cd "$(dirname "$0")/../.."
+# where the folder of the files is made
+export TMPDIR="${FOLDER:-.}"
+. "$(dirname "$0")/../../checks/begin.sh"
 : "${PROGRAM:=crates/rb_run/out/rb_run}"
 : "${RUNS:=3}"
-: "${FOLDER:=.}"
 TEXT=100
+installs gcc libc6-dev libsqlite3-dev strace
 
-for package in gcc libc6-dev libsqlite3-dev strace; do
-    dpkg -s "$package" >/dev/null 2>&1 || apt-get install -y "$package" >&2
-done
 [ -x "$PROGRAM" ] || fail "no program at $PROGRAM: see README.md"
-work="$(mktemp -d -p "$FOLDER")"
-trap 'rm -rf "$work"' EXIT
 gcc -O2 -Wall -Wextra bench/drive/input.c bench/fields.c bench/apply/measure.c -lsqlite3 -o "$work/input"
 gcc -O2 -Wall -Wextra bench/drive/phases.c bench/apply/measure.c -lsqlite3 -o "$work/phases"
 gcc -O2 -Wall -Wextra bench/durable/sqlite.c bench/apply/measure.c -lsqlite3 -o "$work/sqlite"

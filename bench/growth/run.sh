@@ -6,17 +6,9 @@
 # where it isn't `rt`. The gate runs none of it.
 #   bash bench/growth/run.sh       PRIORITY is a command before the program, as `chrt -f 50`
 set -eu
-fail() {
-    echo "run.sh: $1" >&2
-    exit 1
-}
-
-cd "$(dirname "$0")/../.."
-: "${RT:=rt}"
+. "$(dirname "$0")/../../checks/begin.sh"
 : "${PRIORITY:=}"
-dpkg -s time >/dev/null 2>&1 || apt-get install -y time >&2
-work="$(mktemp -d)"
-trap 'rm -rf "$work"' EXIT
+installs time
 git clone -q . "$work/clone"
 crate="$work/clone/crates/bench_growth"
 mkdir -p "$crate/src" "$crate/proofs/set" "$crate/proofs/set_all"

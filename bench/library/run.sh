@@ -5,13 +5,7 @@
 # another program. PRIORITY is a command that gives the C programs a priority on a busy machine, as `chrt -r 50`, RUNS how
 # often the whole way is run.
 set -eu
-fail() {
-    echo "run.sh: $1" >&2
-    exit 1
-}
-
-cd "$(dirname "$0")/../.."
-: "${RT:=rt}"
+. "$(dirname "$0")/../../checks/begin.sh"
 : "${PROGRAM:=crates/rb_run/out/rb_run}"
 : "${PRIORITY:=}"
 : "${RUNS:=5}"
@@ -19,8 +13,6 @@ library=crates/broker_c/out/libbroker_c.a heap="$(dirname "$($RT doc)")/c/liblib
 for made in $library "$heap" "$PROGRAM"; do
     [ -e "$made" ] || fail "no $made: see docs/C.md and README.md"
 done
-work="$(mktemp -d)"
-trap 'rm -rf "$work"' EXIT
 words='-std=c99 -O2 -Wall -Wextra -I include'
 # they are the compiler's words
 # shellcheck disable=SC2086

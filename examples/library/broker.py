@@ -2,8 +2,10 @@
 
 A call is a method of a Broker: take(0, 7) makes broker_take. It gets numbers, and bytes without their length, and returns
 what the call writes: one number, a tuple of numbers, or a text as bytes. It returns None if the call writes nothing, if
-nothing is ready, or if nothing waits. Each other refusal is an error. broker.h says what each number means."""
-import ctypes
+nothing is ready, or if nothing waits. Each other refusal is an error. broker.h says what each number means.
+
+A replica's file stores `name` beside each number of the broker: under another name the number says nothing."""
+import ctypes, os
 from ctypes import byref, c_int64, c_size_t, c_uint64
 
 EMPTY, IDLE = -37, 1
@@ -28,6 +30,7 @@ class Broker:
     def __init__(self, library, tables, limits=(16, 4, 10, 65536, 64, 1)):
         """Opens a broker of libgubzelk.so for tables (name, key): a byte for each column, its place in the key, or 0."""
         self.lib, self.handle, why = ctypes.CDLL(library), ctypes.c_void_p(), (c_uint64 * 2)()
+        self.name = os.urandom(16).hex()
         for name in (*TEXTS, 'message'):
             getattr(self.lib, 'broker_' + name).restype = c_int64
         rows = (Table * len(tables))(*(Table(name, len(name), key, len(key)) for name, key in tables))

@@ -1,7 +1,7 @@
 //! A safe broker over the calls of broker.h. A `Broker` frees its handle when it is dropped. `&mut self` keeps two calls
-//! from using it at once, and it may go to another thread.
+//! from using it at once, and it may go to another thread. Each has a name, without which its numbers say nothing.
 use crate::calls::*;
-use std::{error, fmt, ptr};
+use std::{error, fmt, fs::File, io::Read, ptr};
 
 /// Why a call is refused: its code, with the two numbers that go with it.
 #[derive(Debug)]
@@ -20,8 +20,15 @@ impl fmt::Display for Error {
 
 impl error::Error for Error {}
 
-/// A broker in this process.
-pub struct Broker(Handle);
+/// Where a replica's file stands: the last entry that it has, and the name of the broker that placed it. The file stores
+/// both in the transaction that changes its rows.
+pub struct Place {
+    pub broker: String,
+    pub number: u64,
+}
+
+/// A broker in this process, and its name: 128 random bits in hexadecimal.
+pub struct Broker(Handle, String);
 
 unsafe impl Send for Broker {}
 
@@ -34,11 +41,13 @@ impl Drop for Broker {
 impl Broker {
     /// Opens a broker for tables: of each the name, and for each column its place in the primary key, or 0.
     pub fn open(limits: &Limits, tables: &[(&str, &[u8])]) -> Result<Broker, Error> {
-        let (mut handle, mut why) = (ptr::null_mut(), [0; 2]);
+        let (mut handle, mut why, mut bits) = (ptr::null_mut(), [0; 2], [0; 16]);
+        File::open("/dev/urandom").and_then(|mut file| file.read_exact(&mut bits)).expect("no random bits");
+        let name = bits.iter().map(|byte| format!("{byte:02x}")).collect();
         let tables: Vec<Table> =
             tables.iter().map(|(name, key)| Table(name.as_ptr(), name.len(), key.as_ptr(), key.len())).collect();
         match unsafe { broker_open(&mut handle, limits, tables.as_ptr(), tables.len(), &mut why) } {
-            0 => Ok(Broker(handle)),
+            0 => Ok(Broker(handle, name)),
             code => Err(Error { code: Code::of(code), why }),
         }
     }
@@ -58,6 +67,11 @@ impl Broker {
     fn number(&mut self, call: impl FnOnce(Handle, &mut u64) -> i32) -> Result<u64, Error> {
         let mut number = 0;
         self.done(call(self.0, &mut number)).map(|_| number)
+    }
+
+    /// Where a file stands that has all up to an entry.
+    pub fn place(&self, number: u64) -> Place {
+        Place { broker: self.1.clone(), number }
     }
 
     pub fn publisher(&mut self) -> Result<u64, Error> {
@@ -112,6 +126,17 @@ impl Broker {
 
     pub fn reconnect(&mut self, subscription: u64, cursor: u64) -> Result<u64, Error> {
         self.number(|b, link| unsafe { broker_reconnect(b, subscription, cursor, link) })
+    }
+
+    /// What a file lacks of what a subscription has accepted, as a changeset. `None` if the file is of another broker: it
+    /// must become a copy.
+    pub fn lacking(&mut self, file: &Place, subscription: u64) -> Result<Option<Vec<u8>>, Error> {
+        let cursor = self.cursor(subscription)?;
+        match file {
+            Place { broker, .. } if *broker != self.1 => Ok(None),
+            Place { number, .. } if *number == cursor => Ok(Some(Vec::new())),
+            Place { number, .. } => self.combined(number + 1, cursor).map(Some),
+        }
     }
 
     /// The canonical text of the entries `first` to `last` as one changeset.

@@ -3,14 +3,15 @@
 
     python3 replicate.py PREFIX/lib/libgubzelk.so        packaging/install.sh makes it (docs/C.md)
 
-A session records each transaction. The replica accepts a delivery, and applies it to its file with its cursor, in one
-transaction. Once it stops between the two, and resumes. It makes replica.db anew, and needs CPython over an SQLite
-with sessions."""
+A session records each transaction on live.db. The replica accepts a delivery, and applies it to replica.db with its
+cursor and the broker's name, in one transaction. Once it stops between the two, and resumes. Each run goes on with the
+files that are there, by a new broker: where replica.db has another name, or none, it becomes a copy of live.db. It
+needs CPython over an SQLite with sessions."""
 import _sqlite3, ctypes, sqlite3, sys
 from broker import Broker
 from ctypes import byref, c_int, c_void_p
 
-SCHEMA = 'CREATE TABLE item (id INTEGER PRIMARY KEY, name TEXT, price INTEGER)'
+ITEM = 'item (id INTEGER PRIMARY KEY, name TEXT, price INTEGER)'
 sqlite = ctypes.CDLL(_sqlite3.__file__)
 abort = ctypes.CFUNCTYPE(c_int, c_void_p, c_int, c_void_p)(lambda *conflict: 2)  # SQLITE_CHANGESET_ABORT
 
@@ -21,27 +22,32 @@ def handle(database):
     """SQLite's handle of a connection, which is the first field of CPython's object."""
     return c_void_p.from_address(id(database) + object.__basicsize__)
 
-def publish(sql):
-    """Runs SQL on the live database, and places what it changed as one entry."""
+def publish(sql=None):
+    """Runs SQL on the live database, and places what it changed as one entry; without SQL, the rows that are there."""
     session, size, text = c_void_p(), c_int(), c_void_p()
     check(sqlite.sqlite3session_create(handle(live), b'main', byref(session)))
     check(sqlite.sqlite3session_attach(session, None))
-    live.execute(sql)
+    if sql: live.execute(sql)
+    else: check(sqlite.sqlite3session_diff(session, b'empty', b'item', None))
     check(sqlite.sqlite3session_changeset(session, byref(size), byref(text)))
     broker.feed(0, ctypes.string_at(text, size.value))
     sqlite.sqlite3_free(text)
     sqlite.sqlite3session_delete(session)
     broker.end(0)
     broker.send(0)
-    print(f'entry {broker.turn()}: {sql}')
+    print(f'entry {broker.turn()}: {sql or "the rows that are there"}')
+
+def place():
+    """Where the file stands, or None if it has another broker's name, or none."""
+    return replica.execute('SELECT number FROM replica_place WHERE broker = ?', [broker.name]).fetchone()
 
 def apply(last):
     """Applies the entries up to `last` that aren't in the file yet, and moves its cursor, in one transaction."""
-    [cursor] = replica.execute('SELECT number FROM replica_cursor').fetchone()
+    [cursor] = place()
     if cursor < last:
         text = broker.combined(cursor + 1, last)
         with replica:
-            replica.execute('UPDATE replica_cursor SET number = ?', [last])
+            replica.execute('UPDATE replica_place SET broker = ?, number = ?', [broker.name, last])
             check(sqlite.sqlite3changeset_apply(handle(replica), len(text), text, None, abort, None))
         print(f'the replica applies entries {cursor + 1} to {last}')
 
@@ -52,24 +58,36 @@ def follow():
         apply(broker.accept(number))
         broker.ack(number)
 
-open('replica.db', 'w').close()
-live, replica = sqlite3.connect(':memory:', isolation_level=None), sqlite3.connect('replica.db')
-live.execute(SCHEMA)
-replica.executescript(SCHEMA + '; CREATE TABLE replica_cursor AS SELECT 0 AS number')
+def start():
+    """Opens the replica's file. It becomes a copy, or applies what the broker has accepted beyond its cursor."""
+    global replica
+    replica = sqlite3.connect('replica.db')
+    replica.execute('CREATE TABLE IF NOT EXISTS replica_place (broker TEXT, number INTEGER)')
+    if not place():
+        print("replica.db has another broker's name, or none: it becomes a copy")
+        live.backup(replica)
+        replica.execute('CREATE TABLE replica_place AS SELECT ? AS broker, ? AS number', [broker.name, broker.front()])
+        follow()
+    apply(broker.cursor(0))
+    broker.reconnect(0, broker.cursor(0))
+
+live = sqlite3.connect('live.db', isolation_level=None)
+live.executescript(f"CREATE TABLE IF NOT EXISTS {ITEM}; ATTACH ':memory:' AS empty; CREATE TABLE empty.{ITEM}")
 broker = Broker(sys.argv[1], [(b'item', b'\1\0\0')])
 broker.publisher()
 broker.subscribe(0)
-publish("INSERT INTO item VALUES (1, 'lamp', 120), (2, 'chair', 80)")
+publish()
+start()
+publish("INSERT INTO item (name, price) VALUES ('lamp', 120), ('chair', 80)")
 publish('UPDATE item SET price = price + 5')
 follow()
-publish('DELETE FROM item WHERE id = 2')
+publish("DELETE FROM item WHERE name = 'chair'")
 number, *_ = broker.take(0, 0)
 broker.accept(number)
 replica.close()
 print('the replica stops, and starts again')
-replica = sqlite3.connect('replica.db')
-apply(broker.cursor(0))
-broker.reconnect(0, broker.cursor(0))
-publish("INSERT INTO item VALUES (3, 'table', NULL)")
+start()
+publish("INSERT INTO item (name, price) VALUES ('table', NULL)")
 follow()
-print('the rows are', *replica.execute('SELECT * FROM item'))
+rows = [set(database.execute('SELECT * FROM item')) for database in (live, replica)]
+print('rows that differ:', len(rows[0] ^ rows[1]))

@@ -1,10 +1,10 @@
-//! Feeds changesets to a broker, lets another thread take, accept and acknowledge them, and meets a refusal. With the
-//! libraries installed under PREFIX (docs/C.md):
+//! Feeds changesets to a broker, lets another thread take, accept and acknowledge them, and meets a refusal. Then a new
+//! broker meets a file of the first one. With the libraries installed under PREFIX (docs/C.md):
 //!
 //!     rustc --edition 2021 -O run.rs -L native=PREFIX/lib -l static=broker_c -l static=gubzelk_heap
 mod broker;
 mod calls;
-use broker::{Broker, Error};
+use broker::{Broker, Error, Place};
 use std::thread;
 
 /// An INSERT of (key, value) into t(a INTEGER PRIMARY KEY, b INTEGER), as SQLite's session extension records it.
@@ -37,13 +37,28 @@ fn follow(broker: &mut Broker, subscription: u64) -> Result<(), Error> {
     Ok(())
 }
 
-fn main() -> Result<(), Error> {
+/// A broker with some entries, its publisher and its subscription.
+fn begin(entries: i64) -> Result<(Broker, u64, u64), Error> {
     let mut broker = Broker::open(&calls::LIMITS, &[("t", &[1, 0])])?;
     let publisher = broker.publisher()?;
     let (subscription, _link) = broker.subscribe(0)?;
-    for key in 1..=40 {
+    for key in 1..=entries {
         publish(&mut broker, publisher, &insert(key, 10 * key))?;
     }
+    Ok((broker, publisher, subscription))
+}
+
+/// Says what a file that stands at this place must get.
+fn meet(broker: &mut Broker, subscription: u64, file: &Place) -> Result<(), Error> {
+    match broker.lacking(file, subscription)? {
+        Some(text) => println!("a file at entry {} gets {} bytes", file.number, text.len()),
+        None => println!("a file of another broker becomes a copy, whatever its number is"),
+    }
+    Ok(())
+}
+
+fn main() -> Result<(), Error> {
+    let (mut broker, publisher, subscription) = begin(40)?;
     thread::scope(|scope| scope.spawn(|| follow(&mut broker, subscription)).join().unwrap())?;
     println!("entries 1 and 2 as one changeset: {} bytes", broker.combined(1, 2)?.len());
 
@@ -52,5 +67,10 @@ fn main() -> Result<(), Error> {
     println!("{:?} of change {}: {refused}", refused.code, refused.why[0]);
     let cursor = broker.cursor(subscription)?;
     println!("link {} begins after entry {cursor}", broker.reconnect(subscription, cursor)?);
-    Ok(())
+
+    let file = broker.place(38);
+    meet(&mut broker, subscription, &file)?;
+    let (mut broker, _publisher, subscription) = begin(2)?;
+    follow(&mut broker, subscription)?;
+    meet(&mut broker, subscription, &file)
 }

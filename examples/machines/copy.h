@@ -18,6 +18,8 @@ struct copy {
     uint64_t batch, publisher, subscription;
     /* the last message that is in the file, which keeps this place; and the last one that the broker was fed */
     struct place at, fed;
+    /* the name of the outbox whose numbers these are, which the file keeps too; "" as long as it has no number */
+    char outbox[NAME_ROOM];
     /* of each entry of the broker, from 1: the place of its last message, or of the file for rows that it began with */
     struct place ends[ENTRIES + 1];
     uint64_t entries;
@@ -70,8 +72,9 @@ static inline void write_file(struct copy *copy, size_t len, struct place place)
     run(copy->db, "BEGIN IMMEDIATE");
     if (len)
         check(copy->db, sqlite3changeset_apply(copy->db, (int)len, copy->text, NULL, conflict, (void *)copy->path));
-    check(copy->db, sqlite3_bind_int64(copy->move, 1, place.number));
-    check(copy->db, sqlite3_bind_int64(copy->move, 2, place.sequence));
+    check(copy->db, sqlite3_bind_text(copy->move, 1, copy->outbox, -1, SQLITE_STATIC));
+    check(copy->db, sqlite3_bind_int64(copy->move, 2, place.number));
+    check(copy->db, sqlite3_bind_int64(copy->move, 3, place.sequence));
     run_prepared(copy->db, copy->move);
     run(copy->db, "COMMIT");
     copy->at = place, copy->commits++;
@@ -124,6 +127,16 @@ static inline void begin_broker(struct copy *copy) {
     copy->is_beginning = false;
 }
 
+/* Ends the program with status 4 where the stream is of another outbox than the file: no number of it says anything of
+ * the file's rows. A file without a number takes the name. */
+static inline void check_outbox(struct copy *copy, const char *its) {
+    if (!copy->fed.number && *its) snprintf(copy->outbox, sizeof copy->outbox, "%s", its);
+    if (*its && !strcmp(copy->outbox, its)) return;
+    SAY("%s: it is of outbox '%s', and the stream of outbox '%s': remove the file, and a new one reads all", copy->path,
+        copy->outbox, its);
+    fflush(NULL), _exit(4);
+}
+
 /* What came of a message. */
 enum taken { TAKEN, TAKEN_BEFORE, TAKEN_GAP };
 
@@ -167,8 +180,8 @@ static inline void make_file(sqlite3 *db, const char *schema) {
     check(db, sqlite3_finalize(actors));
     run(db, "%s", drops);
     sqlite3_free(drops);
-    run(db, "CREATE TABLE machines_at (number INTEGER NOT NULL, sequence INTEGER NOT NULL);"
-        "INSERT INTO machines_at VALUES (0, 0)");
+    run(db, "CREATE TABLE machines_at (outbox TEXT, number INTEGER NOT NULL, sequence INTEGER NOT NULL);"
+        "INSERT INTO machines_at VALUES ('', 0, 0)");
 }
 
 /* Opens a replica's file, or makes it, and begins a broker from it. */
@@ -178,11 +191,14 @@ static inline void open_copy(struct copy *copy, const char *path, const char *sc
     sqlite3 *db = copy->db = open_database(path, "NORMAL");
     run(db, "BEGIN IMMEDIATE");
     if (!number(db, "SELECT count(*) FROM sqlite_schema WHERE name = 'machines_at'")) make_file(db, schema);
+    if (!number(db, "SELECT count(*) FROM pragma_table_info('machines_at') WHERE name = 'outbox'"))
+        run(db, "ALTER TABLE machines_at ADD COLUMN outbox TEXT");
     run(db, "COMMIT");
     copy->tables = find_tables(db);
+    find_name(db, "SELECT outbox FROM machines_at", copy->outbox);
     copy->at.number = number(db, "SELECT number FROM machines_at");
     copy->at.sequence = number(db, "SELECT sequence FROM machines_at");
-    copy->move = prepare(db, "UPDATE machines_at SET number = ?, sequence = ?");
+    copy->move = prepare(db, "UPDATE machines_at SET outbox = ?, number = ?, sequence = ?");
     begin_broker(copy);
 }
 

@@ -114,6 +114,18 @@ static inline int64_t number(sqlite3 *db, const char *sql) {
     return found;
 }
 
+/* The room of an outbox's name: 128 random bits in hexadecimal, and a zero byte. A number says nothing under another
+ * name. */
+enum { NAME_ROOM = 33 };
+
+/* Sets `name` to the text that a query gives, or to "" where that is no name. */
+static inline void find_name(sqlite3 *db, const char *sql, char *name) {
+    sqlite3_stmt *query = prepare(db, "%s", sql);
+    bool is_name = has_row(db, query) && sqlite3_column_bytes(query, 0) == NAME_ROOM - 1;
+    snprintf(name, NAME_ROOM, "%s", is_name ? (const char *)sqlite3_column_text(query, 0) : "");
+    check(db, sqlite3_finalize(query));
+}
+
 /* ---- the tables whose changes are recorded: all but those whose name begins with `machines_` */
 
 struct tables {

@@ -5,6 +5,7 @@
 #include "changeset.h"
 #include "machines.h"
 #include "rows.h"
+#include <sys/random.h>
 
 /* A changeset is stored in rows of at most PIECE bytes, each of which becomes a message. A row whose `ends` is 1 is the
  * last of its changeset. The KEPT last rows that the stream has acknowledged stay: numbering goes on from them, and a
@@ -39,14 +40,24 @@ static inline void store(void *with, const unsigned char *changeset, int len) {
     }
 }
 
-/* Opens the outbox of a database. The first time it stores all rows that the database has. */
+/* Makes an outbox, and its name. */
+static inline void make_outbox(sqlite3 *db) {
+    unsigned char bits[16];
+    char name[NAME_ROOM];
+    if (getrandom(bits, 16, 0) != 16) FAIL("the system has no random bits");
+    for (int i = 0; i < 16; i++) snprintf(name + 2 * i, 3, "%02x", bits[i]);
+    run(db, "CREATE TABLE machines_outbox (number INTEGER PRIMARY KEY, ends INTEGER NOT NULL, bytes BLOB NOT NULL);"
+        "DROP TABLE IF EXISTS machines_name; CREATE TABLE machines_name AS SELECT %Q AS name", name);
+}
+
+/* Opens the outbox of a database. The first time it makes it, and stores all rows that the database has. */
 static inline struct outbox open_outbox(sqlite3 *db) {
     struct outbox outbox = {.db = db, .tables = find_tables(db)};
     run(db, "BEGIN IMMEDIATE");
     bool is_new = !number(db, "SELECT count(*) FROM sqlite_schema WHERE name = 'machines_outbox'");
-    if (is_new)
-        run(db, "CREATE TABLE machines_outbox"
-            " (number INTEGER PRIMARY KEY, ends INTEGER NOT NULL, bytes BLOB NOT NULL)");
+    if (is_new) make_outbox(db);
+    if (!number(db, "SELECT count(*) FROM sqlite_schema WHERE name = 'machines_name'"))
+        FAIL("the outbox has no name: drop the table machines_outbox, and begin a new stream and new replicas");
     outbox.version = number(db, "PRAGMA schema_version");
     outbox.last = number(db, "SELECT max(number) FROM machines_outbox");
     outbox.insert = prepare(db, "INSERT INTO machines_outbox VALUES (?, ?, ?)");

@@ -78,13 +78,16 @@ ended() {
     return $status
 }
 
-# stop NAME SIGNAL: sends a child a signal until it ends, and returns its status. A signal between fork and exec is
-# lost.
+# stop NAME SIGNAL: sends a child a signal until it ends, for two minutes at most, and returns its status. A signal
+# between fork and exec is lost.
 stop() {
     eval "stopping=\$pid_$1"
+    left=240
     while is_running "$stopping"; do
         kill "-$2" "$stopping" 2>/dev/null
         [ "$2" = KILL ] && break
+        left=$((left - 1))
+        [ $left -gt 0 ] || fail "$1 does not end after signal $2"
         sleep 0.5
     done
     ended "$1"

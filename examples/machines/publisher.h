@@ -23,6 +23,7 @@ struct shared {
 
 struct publisher {
     const char *path, *urls;
+    char outbox[NAME_ROOM];
     struct shared *shared;
     struct stream stream;
     sqlite3 *db;
@@ -82,7 +83,8 @@ static inline bool publish_window(struct publisher *publisher, struct place *las
         if (publisher->is_behind) break;
         const void *piece = sqlite3_column_blob(publisher->rows, 2);
         int len = sqlite3_column_bytes(publisher->rows, 2);
-        status = publish(&publisher->stream, &next, sqlite3_column_int(publisher->rows, 1), piece, len);
+        status = publish(&publisher->stream, publisher->outbox, &next, sqlite3_column_int(publisher->rows, 1), piece,
+                         len);
         next.number++, next.sequence++, bytes += len;
     }
     check(publisher->db, sqlite3_reset(publisher->rows));
@@ -96,6 +98,9 @@ static inline bool publish_window(struct publisher *publisher, struct place *las
 /* Ends the program if the stream's last message is not what the outbox has under its number: then another database has
  * published, or this one is an older copy. */
 static inline void check_own(struct publisher *publisher, natsMsg *message, int64_t its) {
+    if (strcmp(outbox_of(message), publisher->outbox))
+        FAIL("the stream is of outbox '%s', and this is outbox '%s': it needs a stream of its own",
+             outbox_of(message), publisher->outbox);
     check(publisher->db, sqlite3_bind_int64(publisher->rows, 1, its - 1));
     if (has_row(publisher->db, publisher->rows) && sqlite3_column_int64(publisher->rows, 0) == its) {
         int len = sqlite3_column_bytes(publisher->rows, 2);
@@ -131,6 +136,7 @@ static inline void *publish_outbox(void *with) {
     bool is_known = false;
     publisher->stream = open_stream(publisher->urls, on_answer, publisher->shared);
     publisher->db = open_database(publisher->path, "FULL");
+    find_name(publisher->db, "SELECT name FROM machines_name", publisher->outbox);
     publisher->rows = prepare(publisher->db, "SELECT number, ends, bytes FROM machines_outbox WHERE number > ?"
                               " ORDER BY number LIMIT %d", WINDOW);
     int64_t reached = -1;

@@ -1,8 +1,8 @@
 /* ./replica FILE SCHEMA URLS BATCH
  * Keeps a file equal to the origin's database. It reads the stream after the place that the file has, and applies at
  * most BATCH changesets in a transaction, which moves the place too. FILE is made with the tables of SCHEMA if it is
- * not there. It ends after SIGTERM; or with status 3 at a gap of the stream, which it names. Started again after a kill,
- * it goes on where the file is. */
+ * not there. It ends after SIGTERM; with status 3 at a gap of the stream, which it names; or with status 4 where the
+ * stream is of another outbox than the file. Started again after a kill, it goes on where the file is. */
 #define NAME "replica"
 #include "copy.h"
 
@@ -20,10 +20,19 @@ struct reader {
     double waiting;
 };
 
+/* Checks the name in the stream's last message: after the file's place the stream of another outbox may have none. */
+static void check_stream(struct reader *reader, struct copy *copy) {
+    natsMsg *message = NULL;
+    struct place last;
+    if (find_last(&reader->stream, &message, &last) == NATS_OK && message) check_outbox(copy, outbox_of(message));
+    natsMsg_Destroy(message);
+}
+
 /* Begins to read anew after what the broker was fed. */
-static void begin_reader(struct reader *reader, const struct copy *copy) {
+static void begin_reader(struct reader *reader, struct copy *copy) {
     if (reader->subscription) natsSubscription_Destroy(reader->subscription);
     reader->subscription = NULL, reader->quiet = 0, reader->begun++;
+    check_stream(reader, copy);
     if (read_after(&reader->stream, copy->fed.sequence, &reader->subscription) == NATS_OK) {
         reader->answered = seconds();
         return;
@@ -51,6 +60,7 @@ static void check_gap(struct reader *reader, const struct copy *copy, struct pla
 static bool take_messages(struct reader *reader, struct copy *copy, natsMsgList *list, natsMsg **whole) {
     for (int i = 0; i < list->Count; i++) {
         natsMsg *message = list->Msgs[i];
+        check_outbox(copy, outbox_of(message));
         struct place its = {number_of(message), sequence_of(message)};
         enum taken taken = take_message(copy, its, ends_changeset(message), natsMsg_GetData(message),
                                         natsMsg_GetDataLength(message));
@@ -62,12 +72,13 @@ static bool take_messages(struct reader *reader, struct copy *copy, natsMsgList 
 }
 
 /* Whether a reader that gets nothing is still there, and nothing waits for it. */
-static bool is_idle(struct reader *reader) {
+static bool is_idle(struct reader *reader, struct copy *copy) {
     jsConsumerInfo *info = NULL;
     jsErrCode code = 0;
     if (natsSubscription_GetConsumerInfo(&info, reader->subscription, NULL, &code) != NATS_OK) return false;
     bool is_idle = !info->NumPending;
     jsConsumerInfo_Destroy(info);
+    check_stream(reader, copy);
     reader->quiet = 0, reader->answered = seconds();
     return is_idle;
 }
@@ -89,7 +100,7 @@ static bool follow(struct reader *reader, struct copy *copy) {
     natsMsgList_Destroy(&list);
     bool is_all = renew(copy, FETCHED);
     if (status != NATS_OK && status != NATS_TIMEOUT) return false;
-    return is_next && is_all && (reader->quiet < 5 || is_idle(reader));
+    return is_next && is_all && (reader->quiet < 5 || is_idle(reader, copy));
 }
 
 /* Prints what was done since the start, and how long each step took. */

@@ -7,8 +7,8 @@
 
 #define STREAM "machines"
 #define SUBJECT "machines.changes"
-/* A message has the outbox's number as its id (`Nats-Msg-Id`), and this header, which is 1 where it ends a changeset.
- * */
+/* A message has an id (`Nats-Msg-Id`), which is the outbox's number, a dash and the outbox's name; and this header,
+ * which is 1 where it ends a changeset. */
 #define ENDS "Machines-Ends"
 #define SECONDS(count) ((int64_t)(count) * 1000000000)
 
@@ -72,6 +72,13 @@ static inline int64_t number_of(natsMsg *message) {
     return natsMsgHeader_Get(message, "Nats-Msg-Id", &id) == NATS_OK ? strtoll(id, NULL, 10) : 0;
 }
 
+/* The name of the outbox that a message is of, or "". */
+static inline const char *outbox_of(natsMsg *message) {
+    const char *id = NULL, *dash = NULL;
+    if (natsMsgHeader_Get(message, "Nats-Msg-Id", &id) == NATS_OK) dash = strchr(id, '-');
+    return dash ? dash + 1 : "";
+}
+
 /* The sequence number of a message that a reader got. */
 static inline int64_t sequence_of(natsMsg *message) {
     jsMsgMetaData *data = NULL;
@@ -118,14 +125,14 @@ static inline natsStatus find_number(struct stream *stream, int64_t sequence, in
     return status == NATS_NOT_FOUND && code == JSNoMessageFoundErr ? NATS_OK : status;
 }
 
-/* Publishes a row of the outbox, and does not wait for the answer. The stream stores it directly after the message at
- * `before`, or not at all. */
-static inline natsStatus publish(struct stream *stream, const struct place *before, bool ends, const void *bytes,
-                                 int len) {
+/* Publishes a row of the outbox with this name, and does not wait for the answer. The stream stores it directly after
+ * the message at `before`, or not at all. */
+static inline natsStatus publish(struct stream *stream, const char *outbox, const struct place *before, bool ends,
+                                 const void *bytes, int len) {
     natsMsg *message = NULL;
     jsPubOptions options;
-    char id[24];
-    snprintf(id, sizeof id, "%" PRId64, before->number + 1);
+    char id[24 + NAME_ROOM];
+    snprintf(id, sizeof id, "%" PRId64 "-%s", before->number + 1, outbox);
     expect(jsPubOptions_Init(&options), "options");
     options.MsgId = id, options.MaxWait = 5000;
     if (before->sequence) options.ExpectLastSeq = (uint64_t)before->sequence;

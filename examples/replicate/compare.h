@@ -41,7 +41,7 @@ static int compare(sqlite3 *live, const char *path) {
     sqlite3_stmt *names = prepare(live, sqlite3_mprintf("SELECT name FROM main.sqlite_schema WHERE type = 'table' AND"
         " name NOT LIKE 'sqlite!_%%' ESCAPE '!' AND sql NOT LIKE 'CREATE VIRTUAL%%' UNION SELECT name FROM"
         " replica.sqlite_schema WHERE type = 'table' AND name NOT LIKE 'sqlite!_%%' ESCAPE '!' AND name <>"
-        " 'replica_cursor' AND sql NOT LIKE 'CREATE VIRTUAL%%'"));
+        " 'replica_place' AND sql NOT LIKE 'CREATE VIRTUAL%%'"));
     while (sqlite3_step(names) == SQLITE_ROW) bad += differs(live, path, (const char *)sqlite3_column_text(names, 0));
     check(live, sqlite3_finalize(names));
     run(live, sqlite3_mprintf("DETACH replica"));

@@ -1,5 +1,6 @@
 /* The broker of the live database: its rows and its transactions become entries, and entries become batches. */
 #include "broker.h"
+#include <sys/random.h>
 
 /* a call that must succeed */
 #define MUST(call) do { int code_ = (call); if (code_) FAIL("%s returns %d", #call, code_); } while (0)
@@ -8,8 +9,10 @@ static sqlite3 *live;
 static sqlite3_session *session;
 static broker *held;
 static uint64_t publisher, front;
-/* the broker's name, which replicas store beside its numbers; and how many brokers and transactions there were */
-static long long name, brokers, transactions;
+/* the broker's name, 128 random bits in hexadecimal, which replicas store beside its numbers */
+static char name[33];
+/* how many brokers and transactions there were */
+static long long brokers, transactions;
 /* the most entries of a broker, if it is given */
 static const char *capacity;
 
@@ -22,7 +25,14 @@ static int place(const void *changeset, int len) {
     return code ? code : broker_turn(held, &front);
 }
 
-/* Begins a new broker, with the present rows as its first entries. No transaction is open. */
+/* Draws a new name. */
+static void draw_name(void) {
+    unsigned char bits[16];
+    if (getrandom(bits, 16, 0) != 16) FAIL("the system has no random bits");
+    for (int i = 0; i < 16; i++) snprintf(name + 2 * i, 3, "%02x", bits[i]);
+}
+
+/* Begins a new broker, with a new name and the present rows as its first entries. No transaction is open. */
 static void open_broker(void) {
     static struct broker_table shapes[MOST_TABLES];
     struct broker_limits limits = BROKER_LIMITS;
@@ -34,7 +44,7 @@ static void open_broker(void) {
     for (int i = 0; i < tables; i++)
         shapes[i] = (struct broker_table){(unsigned char *)table[i].name, strlen(table[i].name), table[i].key,
             table[i].columns};
-    sqlite3_randomness(sizeof name, &name), brokers++, front = 0;
+    draw_name(), brokers++, front = 0;
     MUST(broker_open(&held, &limits, shapes, tables, &why));
     MUST(broker_publisher(held, &publisher));
     for (int i = 0, code; i < tables; i++)

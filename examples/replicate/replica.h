@@ -1,16 +1,16 @@
-/* The process that keeps one replica: an SQLite file, with the number that it stands at in its table `replica_cursor`,
- * and the broker whose number that is. A message comes in, its batch or copy goes to the file, and the place where the
- * file then stands goes out. Nothing else writes the file. */
+/* The process that keeps one replica: an SQLite file, with the number that it stands at in its table `replica_place`,
+ * and the name of the broker whose number that is. A message comes in, its batch or copy goes to the file, and the
+ * place where the file then stands goes out. Nothing else writes the file. */
 #include <fcntl.h>
 #include <sys/file.h>
 #include <unistd.h>
 
-/* where a file stands: at a number of a broker's sequence */
-struct place { long long broker, number; };
+/* where a file stands: at a number of the broker with this name, which says nothing of another broker's numbers */
+struct place { char broker[33]; long long number; };
 
 /* The entries after `from` up to `number` as one changeset, whose bytes follow; or, if `len` is negative, the live
  * database as it is now, which is a copy of it at `number`. */
-struct message { long long broker, from, number, len; };
+struct message { char broker[33]; long long from, number, len; };
 
 /* Reads or writes all bytes, or returns 0. */
 static int whole(ssize_t (*move)(int, void *, size_t), int file, void *bytes, size_t len) {
@@ -28,13 +28,14 @@ static sqlite3 *open_replica(const char *path, const char *synchronous) {
     return db;
 }
 
-/* Where the file stands. A file without a cursor is new, or a copy that was not finished. */
+/* Where the file stands. A file without a place is new, or a copy that was not finished. */
 static struct place place_of_file(sqlite3 *db) {
-    struct place it = {0, 0};
-    if (!number(db, sqlite3_mprintf("SELECT count(*) FROM sqlite_schema WHERE name = 'replica_cursor'"))) return it;
-    it.broker = number(db, sqlite3_mprintf("SELECT broker FROM replica_cursor"));
-    it.number = number(db, sqlite3_mprintf("SELECT number FROM replica_cursor"));
-    return it;
+    struct place it = {"", 0};
+    if (!number(db, sqlite3_mprintf("SELECT count(*) FROM sqlite_schema WHERE name = 'replica_place'"))) return it;
+    char *broker = text(db, sqlite3_mprintf("SELECT broker FROM replica_place"));
+    if (broker && strlen(broker) < sizeof it.broker) strcpy(it.broker, broker);
+    it.number = number(db, sqlite3_mprintf("SELECT number FROM replica_place"));
+    return sqlite3_free(broker), it;
 }
 
 /* Says what is in the way of a change. The file then gets a copy of the live database. */
@@ -51,7 +52,7 @@ static int conflict(void *path, int kind, sqlite3_changeset_iter *change) {
 /* Applies a batch and moves the cursor, in one transaction, if the file stands before the batch. */
 static int apply(sqlite3 *db, const char *path, const struct message *it, void *changeset) {
     run(db, sqlite3_mprintf("BEGIN IMMEDIATE"));
-    run(db, sqlite3_mprintf("UPDATE replica_cursor SET number = %lld WHERE broker = %lld AND number = %lld", it->number,
+    run(db, sqlite3_mprintf("UPDATE replica_place SET number = %lld WHERE broker = %Q AND number = %lld", it->number,
         it->broker, it->from));
     int rc = sqlite3_changes(db) == 1 ? SQLITE_OK : SQLITE_ABORT;
     if (!rc) rc = sqlite3changeset_apply(db, (int)it->len, changeset, NULL, conflict, (void *)path);
@@ -60,12 +61,17 @@ static int apply(sqlite3 *db, const char *path, const struct message *it, void *
     return !rc;
 }
 
-/* Makes the file a copy of the live database. Until the end of it the file has no cursor. */
-static void become_copy(sqlite3 *db, const char *live_path, const struct message *it) {
+/* Makes the file a copy of the live database, and says so if the file is of another broker. Until the end of it the
+ * file has no place. */
+static void become_copy(sqlite3 *db, const char *path, const char *live_path, const struct message *it) {
+    struct place at = place_of_file(db);
+    if (strcmp(at.broker, it->broker) && number(db, sqlite3_mprintf("SELECT count(*) FROM sqlite_schema")))
+        SAY("%s: its cursor is of %s%s, and this is broker %s: it becomes a copy", path,
+            *at.broker ? "broker " : "a broker without a name", at.broker, it->broker);
     sqlite3 *live = open_database(live_path, SQLITE_OPEN_READONLY);
     copy(db, "main", live), sqlite3_close(live);
     run(db, sqlite3_mprintf("BEGIN IMMEDIATE")), strip(db, "main");
-    run(db, sqlite3_mprintf("CREATE TABLE replica_cursor AS SELECT %lld AS broker, %lld AS number; COMMIT", it->broker,
+    run(db, sqlite3_mprintf("CREATE TABLE replica_place AS SELECT %Q AS broker, %lld AS number; COMMIT", it->broker,
         it->number));
 }
 
@@ -79,13 +85,13 @@ static int keep_replica(const char *live_path, const char *path, const char *syn
     while (whole(put, 1, &place, sizeof place) && whole(read, 0, &it, sizeof it)) {
         int is_taken = 1;
         if (it.len < 0) {
-            become_copy(db, live_path, &it), sqlite3_close(db), db = open_replica(path, synchronous);
+            become_copy(db, path, live_path, &it), sqlite3_close(db), db = open_replica(path, synchronous);
         } else {
             char *changeset = malloc(it.len + 1);
             if (!changeset || !whole(read, 0, changeset, it.len)) break;
             is_taken = apply(db, path, &it, changeset), free(changeset);
         }
-        place = is_taken ? place_of_file(db) : (struct place){0, 0};
+        place = is_taken ? place_of_file(db) : (struct place){"", 0};
     }
     return sqlite3_close(db);
 }

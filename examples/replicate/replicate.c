@@ -76,10 +76,11 @@ static void hear(struct replica *it) {
     struct place at;
     int status;
     if (whole(read, it->from, &at, sizeof at)) {
-        int is_known = (uint64_t)at.number <= it->floor || (uint64_t)at.number == it->cursor;
-        it->is_busy = 0, it->number = at.broker == name && is_known ? at.number : -1;
-        if (at.broker == name && !is_known) SAY("%s: its cursor %lld is no number that it was given: it becomes a copy",
-            it->path, at.number);
+        int is_own = !strcmp(at.broker, name);
+        int is_known = is_own && ((uint64_t)at.number <= it->floor || (uint64_t)at.number == it->cursor);
+        it->is_busy = 0, it->number = is_known ? at.number : -1;
+        if (is_own && !is_known) SAY("%s: its cursor %lld is no number that it was given: it becomes a copy", it->path,
+            at.number);
         return;
     }
     close(it->to), close(it->from);
@@ -89,7 +90,7 @@ static void hear(struct replica *it) {
 
 /* Sends a replica what its file lacks: a batch; or a copy, which the source waits for, so that it changes nothing. */
 static void send_next(struct replica *it) {
-    struct message next = {0, it->number, 0, -1};
+    struct message next = {"", it->number, 0, -1};
     int64_t len = 0;
     void *text = NULL;
     if ((uint64_t)it->number == it->cursor) {
@@ -99,7 +100,7 @@ static void send_next(struct replica *it) {
     if (it->number >= 0) text = combined(it->number + 1, it->cursor, &len);
     if (it->number >= 0 && len <= MOST_OF_BATCH) next.len = len;
     else for (settle(it); it->cursor < front; settle(it)) accept_next(it);
-    next.broker = name, next.number = it->cursor, it->is_busy = 1;
+    strcpy(next.broker, name), next.number = it->cursor, it->is_busy = 1;
     if (whole(put, it->to, &next, sizeof next) && next.len > 0) whole(put, it->to, text, next.len);
     if (next.len < 0) it->copies++, hear(it);
     else it->batches++;
