@@ -6,7 +6,7 @@
 #   sh refused/tests.sh CRATE..        needs gcc, and the test programs as `rt test` leaves them in crates/CRATE/out
 # ONLY is a pattern that the tests' names match, where not all are wanted. Some allocate more often than anybody waits for,
 # and one of rb_tests asks for nothing, so checks/all.sh has patterns for rb_tests and rb_threads. With REFUSE_LEAST only
-# allocations of so many bytes are refused: REFUSE_LEAST=500000 ONLY='the_next_segment' refuses each segment of the
+# allocations of so many bytes are refused: REFUSE_LEAST=500000 ONLY='three_segments' refuses each segment of the
 # sequence.
 if [ $# -eq 0 ]; then
     echo "tests.sh: usage: sh refused/tests.sh CRATE.." >&2

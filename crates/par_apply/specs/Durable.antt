@@ -10,14 +10,15 @@ use Rattle.par_apply.specs.declared.planned.RowPlan.{RowPlan}
 abbrev pub changed_tables : TableState → RowChanges → TableState
 changed_tables tables changes = record tables { rows = overlaid tables.rows changes }
 
--- P of the plan that comes back, if the store answered with an error
-abbrev pub IfRefused : Result (Unit {0}) NotCommitted → (RowPlan → Type 0) → Type 0
+-- P of the plan that comes back and of the store's error, if the store answered with one
+abbrev pub IfRefused : {E : Type 0} → Result (Unit {0}) (NotCommitted E) → (RowPlan → E → Type 0)
+    → Type 0
 IfRefused (Ok done) P = Unit {0}
 IfRefused (Err Memory) P = Unit {0}
-IfRefused (Err (Store plan)) P = P plan
+IfRefused (Err (Store plan why)) P = P plan why
 
 -- P, if the store wasn't asked
-abbrev pub IfNotAsked : Result (Unit {0}) NotCommitted → Type 0 → Type 0
+abbrev pub IfNotAsked : {E : Type 0} → Result (Unit {0}) (NotCommitted E) → Type 0 → Type 0
 IfNotAsked (Ok done) P = Unit {0}
 IfNotAsked (Err Memory) P = P
-IfNotAsked (Err (Store plan)) P = Unit {0}
+IfNotAsked (Err (Store plan why)) P = Unit {0}

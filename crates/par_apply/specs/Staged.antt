@@ -1,4 +1,5 @@
--- StagedPlan changes: the places that staging made, and the tables without them.
+-- StagedPlan changes: the places that staging made, the tables without them, and the tables after
+-- the changes.
 use Rattle.std.specs.Prelude.{ℕ, List, [], ◌∷◌, Option, Some, None, slice_get}
 use Rattle.std.specs.List.{AllByRecursion}
 use Rattle.cs_model.specs.declared.row_key.RowKey.{RowKey}
@@ -14,6 +15,12 @@ changes_staged staged = staged.changes.items
 -- each change can be made without memory
 abbrev pub CanHoldAll : HeldState → RowChanges → Type 0
 CanHoldAll tables changes = AllByRecursion (CanHoldRow tables) changes
+
+-- the tables after the changes: each key has its row, or neither a row nor a place
+abbrev pub changed_places : HeldState → RowChanges → HeldState
+changed_places tables [] = tables
+changed_places tables (change ∷ changes) =
+    with_row (changed_places tables changes) change.0 change.1
 
 -- the tables without the key at this index
 abbrev pub without_change : HeldState → Option (RowKey × Option (List Value)) → HeldState

@@ -2,26 +2,26 @@
 
 ghost use Rattle.std.specs.Prelude.{◌≡◌, ◌<◌, ◌++◌, ◌∷◌, [], Some, IfOk, IfErr, OnOk};
 ghost use Rattle.std.specs.Prelude.{OnErr, if◌then◌else◌, slice_get, vec_len};
-ghost use Rattle.std.specs.Vec.{vec_capacity};
-ghost use Rattle.cs_apply.specs.Held.{CanHoldRow, KeyHasPlace};
+ghost use Rattle.std.specs.{List.{IsDistinct}, Map.{keys_of}, Vec.{vec_capacity}};
+ghost use Rattle.cs_apply.specs.{Held.{CanHoldRow, KeyHasPlace, with_row}, SameKey.{same_key}};
 ghost use Rattle.cs_model.specs.declared.row_key.RowKey.{RowKey as Key};
 ghost use Rattle.par_apply.specs.Planned.{FitsAtKey, RowsFit, planned_changes};
 ghost use Rattle.par_apply.specs.RowChanges.{RowChanges, overlaid};
-ghost use Rattle.par_apply.specs.Staged.{CanHoldAll, changes_staged, unstaged};
+ghost use Rattle.par_apply.specs.Staged.{CanHoldAll, changed_places, changes_staged, unstaged};
 ghost use Rattle.par_apply.specs.Staged.{without_change, without_places};
 
 use crate::planned::{RowChange, RowPlan};
 use cs_apply::HeldTables;
-use cs_model::CopyIn;
+use cs_model::{CopyIn, Row, RowKey};
 use std::alloc::{AllocError, Global};
 use thiserror::Error;
 
-/// A plan whose new keys have places. `commit` or `undo` takes it.
+/// A plan whose new keys have places. `commit` or `undo` takes it; nothing else lets it go.
 #[derive(Debug)]
 pub struct StagedPlan {
-    pub(crate) changes: Vec<RowChange>,
+    changes: Vec<RowChange>,
     // the indices of the changes whose places staging made
-    pub(crate) made: Vec<usize>,
+    made: Vec<usize>,
 }
 
 /// Out of memory in `stage`, and the plan.
@@ -39,16 +39,17 @@ impl StagedPlan {
         &self.changes
     }
 
-    /// Makes the changes: each key gets its row, or none. Does not allocate.
+    /// Makes the changes: each key gets its row, or neither a row nor a place. Does not allocate.
     pub fn commit(self, tables: &mut HeldTables)
-        requires { CanHoldAll tables.old (changes_staged self) }
-        ensures { tables.new.state ≡ record tables.old.state {
+        requires ready { CanHoldAll tables.old (changes_staged self) }
+        requires distinct { IsDistinct same_key (keys_of (changes_staged self)) }
+        ensures state { tables.new.state ≡ record tables.old.state {
           rows = overlaid tables.old.state.rows (changes_staged self);
         } }
+        ensures places { tables.new ≡ changed_places tables.old (changes_staged self) }
     {
         let StagedPlan { changes, made: _ } = self;
-        write_all(tables, changes);
-        tables.sweep();
+        change_all(tables, changes);
     }
 
     /// Takes away the places that `stage` made, and hands the plan back. Does not allocate.
@@ -160,15 +161,25 @@ fn take_out(tables: &mut HeldTables, changes: &[RowChange], index: usize)
     }
 }
 
-// Gives each key its row, or none, from the last change on. Does not allocate.
-fn write_all(tables: &mut HeldTables, changes: Vec<RowChange>)
-    requires { CanHoldAll tables.old changes.items }
-    ensures { tables.new.state ≡ record tables.old.state {
-      rows = overlaid tables.old.state.rows changes.items;
-    } }
+// Gives each key its row, or takes it out, from the last change on. Does not allocate.
+fn change_all(tables: &mut HeldTables, changes: Vec<RowChange>)
+    requires ready { CanHoldAll tables.old changes.items }
+    requires distinct { IsDistinct same_key (keys_of changes.items) }
+    ensures { tables.new ≡ changed_places tables.old changes.items }
 {
     let mut rest = changes;
     while let Some((key, row)) = rest.pop() {
-        tables.write(&key, row);
+        change_one(tables, &key, row);
+    }
+}
+
+// Gives a key its row, or takes it out with its place. Does not allocate.
+fn change_one(tables: &mut HeldTables, key: &RowKey, row: Option<Row>)
+    requires { CanHoldRow tables.old (key.now, row) }
+    ensures { tables.new ≡ with_row tables.old key.now row }
+{
+    match row {
+        Some(row) => tables.set(key, row),
+        None => tables.unset(key),
     }
 }

@@ -1,5 +1,6 @@
 -- What one hold of the broker's lock does that places an item, and one that closes.
-use Rattle.std.specs.Prelude.{◌≡◌, ◌++◌, ℕ, length, Option, Some, None, IfSome, Result, Ok, Err}
+use Rattle.std.specs.Prelude.{◌≡◌, ◌++◌, ◌∷◌, [], ℕ, List, length, Option, Some, None, IfSome}
+use Rattle.std.specs.Prelude.{Result, Ok, Err}
 use Rattle.std.specs.Option.{option_map}
 use Rattle.rb_desk.specs.declared.refusal.DeskRefusal.{DeskRefusal}
 use Rattle.rb_desk.specs.declared.refusal.DeskRefusal.TheVariants as desk
@@ -7,13 +8,16 @@ use Rattle.rb_desk.specs.declared.step.Step.TheVariants.{Place}
 use Rattle.rb_desk.specs.Calls.{prepare, place, close}
 use Rattle.rb_desk.specs.Journaled.{JournaledPicture, answer_after, closing_steps, journaled}
 use Rattle.rb_desk.specs.Limits.{Limits}
-use Rattle.rb_sequence.specs.Cells.{Cells, CellToken, IsLastToken, IsTokenOf, LastToken}
+use Rattle.rb_intake.specs.Passes.{SequencerKnows}
+use Rattle.rb_sequence.specs.Cells.{Cells, CellToken, IsLastToken, IsOccupantOf, IsTokenOf}
+use Rattle.rb_sequence.specs.Cells.{LastToken}
 use Rattle.rb_sequence.specs.Entry.{Entry}
+use Rattle.rb_sequence.specs.Item.{Item}
 use Rattle.rb_broker.specs.Holding.{IsDeskOf}
+use Rattle.rb_broker.specs.declared.refusal.Occupied.{Occupied}
+use Rattle.rb_broker.specs.declared.refusal.Occupied.TheVariants.{Next, Set}
 use Rattle.rb_broker.specs.declared.refusal.PlaceRefusal.{PlaceRefusal}
-use Rattle.rb_broker.specs.declared.refusal.PlaceRefusal.TheVariants.{JournalFull}
-use Rattle.rb_broker.specs.declared.refusal.PlaceRefusal.TheVariants.{Closed, SequenceFull}
-use Rattle.rb_broker.specs.declared.refusal.PlaceRefusal.TheVariants.{Occupied, Memory}
+use Rattle.rb_broker.specs.declared.refusal.PlaceRefusal.TheVariants as placing
 use Rattle.rb_broker.specs.declared.refusal.RefusedItem.{RefusedItem}
 
 -- the token shows that the cell of the entry's number holds the entry
@@ -27,29 +31,47 @@ abbrev pub ShowsClosing : Cells → Option ℕ → Option LastToken → Type 0
 ShowsClosing cells closing told = (option_map (λ t. t.last) told ≡ closing)
     × IfSome told (λ t. IsLastToken cells t)
 
--- a refusal because the sequence is closed shows its last number
-abbrev pub ShowsWhy : Cells → PlaceRefusal → Type 0
-ShowsWhy cells JournalFull = Unit {0}
-ShowsWhy cells (Closed told) = IsLastToken cells told
-ShowsWhy cells SequenceFull = Unit {0}
-ShowsWhy cells Occupied = Unit {0}
-ShowsWhy cells Memory = Unit {0}
+-- The item is the last one that the pass pulled, and the number is how many it pulled.
+abbrev pub IsLastPulled : SequencerKnows → Item → ℕ → Type 0
+IsLastPulled pass item number = (before : List Item) × (pass.pulled ≡ before ++ item ∷ [])
+    × (number ≡ length pass.pulled)
 
--- why an item isn't placed, by what the desk's `prepare` returns
-abbrev pub IsWhy : Cells → Option ℕ → Result ℕ DeskRefusal → PlaceRefusal → Type 0
-IsWhy cells closing (Err desk.JournalFull) why = why ≡ JournalFull
-IsWhy cells closing (Err desk.Closed) why =
-    (told : LastToken) × ShowsClosing cells closing (Some told) × (why ≡ Closed told)
-IsWhy cells closing (Err other) why = why ≡ SequenceFull
-IsWhy cells closing (Ok next) why = why ≡ Occupied
+-- What a refusal to place this number shows: the last number of a closed sequence; which other
+-- number is placed next; or which entry the cell of this one holds.
+abbrev pub ShowsWhy : Cells → ℕ → PlaceRefusal → Type 0
+ShowsWhy cells number placing.JournalFull = Unit {0}
+ShowsWhy cells number (placing.Closed told) = IsLastToken cells told
+ShowsWhy cells number placing.SequenceFull = Unit {0}
+ShowsWhy cells number (placing.Occupied (Next next)) = next ≡ number → ⊥
+ShowsWhy cells number (placing.Occupied (Set token)) =
+    IsOccupantOf cells token × (token.number ≡ number)
+ShowsWhy cells number placing.Memory = Unit {0}
+
+-- Why this number isn't placed where the desk places `next`: that is another one; or it is this
+-- one, and its cell is set.
+abbrev pub IsOccupied : Cells → ℕ → ℕ → Occupied → Type 0
+IsOccupied cells number next (Next other) = (other ≡ next) × (next ≡ number → ⊥)
+IsOccupied cells number next (Set token) = IsOccupantOf cells token × (token.number ≡ number)
+    × (next ≡ number)
+
+-- why an item isn't placed under this number, by what the desk's `prepare` returns
+abbrev pub IsWhy : Cells → Option ℕ → ℕ → Result ℕ DeskRefusal → PlaceRefusal → Type 0
+IsWhy cells closing number prepared placing.JournalFull = prepared ≡ Err desk.JournalFull
+IsWhy cells closing number prepared (placing.Closed told) = (prepared ≡ Err desk.Closed)
+    × ShowsClosing cells closing (Some told)
+IsWhy cells closing number prepared placing.SequenceFull = prepared ≡ Err desk.SequenceFull
+IsWhy cells closing number prepared (placing.Occupied why) = (next : ℕ) × (prepared ≡ Ok next)
+    × IsOccupied cells number next why
+IsWhy cells closing number prepared placing.Memory = ⊥
 
 -- the number that the desk would place, or why none
 abbrev pub number_to_place : JournaledPicture → Result ℕ DeskRefusal
 number_to_place desk = answer_after (length desk.steps) (prepare desk.picture)
 
--- why the desk places nothing
-abbrev pub RefusesPlace : Cells → JournaledPicture → PlaceRefusal → Type 0
-RefusesPlace cells desk why = IsWhy cells desk.picture.closing (number_to_place desk) why
+-- why the desk doesn't place this number
+abbrev pub RefusesPlace : Cells → ℕ → JournaledPicture → PlaceRefusal → Type 0
+RefusesPlace cells number desk why =
+    IsWhy cells desk.picture.closing number (number_to_place desk) why
 
 -- What the hold returns and leaves. The entry is in its cell, and the desk has placed its number;
 -- or the item comes back, and the desk is as before.
@@ -58,15 +80,14 @@ abbrev pub PlacesEntry : Result CellToken RefusedItem → Cells → Entry → Jo
 PlacesEntry (Ok told) cells entry old new = ShowsEntry cells told entry
     × (number_to_place old ≡ Ok entry.number) × (new ≡ journaled old Place (place old.picture))
 PlacesEntry (Err refused) cells entry old new = (refused.item ≡ entry.item)
-    × RefusesPlace cells old refused.why × (new ≡ old)
+    × RefusesPlace cells entry.number old refused.why × (new ≡ old)
 
--- After the steps of some journal a desk with these limits refuses to place so. That a cell is set
--- already, and out of memory, tell nothing of the desk.
-abbrev pub DeskRefuses : Limits → Cells → PlaceRefusal → Type 0
-DeskRefuses limits cells Occupied = Unit {0}
-DeskRefuses limits cells Memory = Unit {0}
-DeskRefuses limits cells why =
-    (desk : JournaledPicture) × IsDeskOf limits desk × RefusesPlace cells desk why
+-- After the steps of some journal a desk with these limits refuses to place this number so. Out of
+-- memory says nothing of the desk.
+abbrev pub DeskRefuses : Limits → Cells → ℕ → PlaceRefusal → Type 0
+DeskRefuses limits cells number placing.Memory = Unit {0}
+DeskRefuses limits cells number why =
+    (desk : JournaledPicture) × IsDeskOf limits desk × RefusesPlace cells number desk why
 
 -- After the steps of some journal a desk with these limits places this number.
 abbrev pub DeskPlaces : Limits → ℕ → Type 0

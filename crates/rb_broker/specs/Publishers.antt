@@ -8,17 +8,19 @@ use Rattle.cs_invert.specs.Inverse.{withdrawal_of}
 use Rattle.cs_parse.specs.Progress.{Progress, nothing}
 use Rattle.rb_broker.specs.declared.refusal.AddRefusal.{AddRefusal}
 use Rattle.rb_broker.specs.declared.refusal.AddRefusal.TheVariants.{TooMany, Memory}
-use Rattle.rb_sequence.specs.Cells.{Cells, CellToken, IsTokenOf}
+use Rattle.rb_sequence.specs.Cells.{Cells, CellToken, IsTokenOf, LastToken}
 use Rattle.rb_sequence.specs.Item.{Item}
 
--- A publisher: its number, the tables of its broker, its stream, what it sent, in order, and the
--- numbers of the entries that it withdrew, rising.
+-- A publisher: its number, the tables of its broker, its stream, what it sent, in order, the
+-- numbers of the entries that it withdrew, rising, and the token that shows that the sequence is
+-- closed, once a sending was refused so.
 pub record PublisherView : Type 0 where
   pub number : ℕ
   pub schema : List Shape
   pub stream : Progress
   pub sent : List Item
   pub withdrawn : List ℕ
+  pub closing : Option LastToken
 
 -- A staged set: the number of the publisher that staged it, why it is sent, the changeset, and what
 -- shows the entry that it withdraws.
@@ -41,8 +43,14 @@ IsStaged cells s = WithdrawsShown cells s.origin s.withdraws s.publisher s.body
 
 -- a publisher that has done nothing yet
 abbrev pub new_publisher : ℕ → List Shape → PublisherView
-new_publisher number schema =
-    record { number = number; schema = schema; stream = nothing; sent = []; withdrawn = [] }
+new_publisher number schema = record {
+  number = number;
+  schema = schema;
+  stream = nothing;
+  sent = [];
+  withdrawn = [];
+  closing = None;
+}
 
 -- What the maker of publishers, who made so many, returns, and how many it made then. The new one
 -- has the next number, counted from 0, and there are at most 64.

@@ -10,7 +10,7 @@ use Rattle.cs_group.specs.Group.{first_clash}
 use Rattle.cs_parse.specs.declared.end.EndError.{EndError}
 use Rattle.rb_sequence.specs.Cells.{Cells, CellToken, IsLastToken, IsTokenOf}
 use Rattle.rb_sequence.specs.Entry.{Entry}
-use Rattle.rb_broker.specs.Publishers.{StagedView}
+use Rattle.rb_broker.specs.Publishers.{PublisherView, StagedView}
 use Rattle.rb_broker.specs.declared.refusal.SendRefusal.{SendRefusal}
 use Rattle.rb_broker.specs.declared.refusal.SendRefusal.TheVariants as send
 use Rattle.rb_broker.specs.declared.refusal.WithdrawRefusal.{WithdrawRefusal}
@@ -21,6 +21,11 @@ abbrev pub SendsNothing : {L : Type 0} → Cells → StagedView → SendRefusal 
 SendsNothing cells set (send.Closed last back) = IsLastToken cells last × (back ≡ set)
 SendsNothing cells set (send.Full back) = back ≡ set
 
+-- Where the sequence is closed, the publisher keeps the token. Else it is as before.
+abbrev pub KeepsClosing : {L : Type 0} → PublisherView → PublisherView → SendRefusal L → Type 0
+KeepsClosing old new (send.Closed last back) = new ≡ record old { closing = Some last }
+KeepsClosing old new (send.Full back) = new ≡ old
+
 -- the numbers of withdrawn entries with one more, and whether one is among them
 abbrev pub with_number : ℕ → List ℕ → List ℕ
 with_number n numbers = insert_key nat_cmp numbers n
@@ -28,29 +33,28 @@ with_number n numbers = insert_key nat_cmp numbers n
 abbrev pub has_number : ℕ → List ℕ → Bool
 has_number n numbers = list_any (is_at (nat_cmp n)) numbers
 
--- the cell of this number shows this entry
-abbrev pub CellShows : Cells → ℕ → (Entry → Type 0) → Type 0
-CellShows cells number P =
-    (told : CellToken) × IsTokenOf cells told × (told.number ≡ number) × P told.entry
+-- the token shows the entry of this number
+abbrev pub IsEntryOf : Cells → ℕ → CellToken → Type 0
+IsEntryOf cells number told = IsTokenOf cells told × (told.number ≡ number)
 
 -- publisher p sent the entry, and it isn't one of those that were withdrawn
 abbrev pub IsOpenTo : ℕ → List ℕ → ℕ → Entry → Type 0
 IsOpenTo p withdrawn number entry =
     (entry.item.publisher ≡ p) × (has_number number withdrawn ≡ false)
 
--- Why publisher p, who withdrew these entries, can't withdraw the entry of this number. It is
--- another publisher's; or p's, and withdrawn already; or p's, and not withdrawn, and memory runs
--- out: no two sections of its changeset clash.
+-- Why publisher p, who withdrew these entries, can't withdraw the entry of this number, which a
+-- token shows. It is another publisher's; or p's, and withdrawn already; or p's, and not withdrawn,
+-- and memory runs out: no two sections of its changeset clash.
 abbrev pub RefusesWithdrawal : Cells → ℕ → List ℕ → ℕ → WithdrawRefusal → Type 0
 RefusesWithdrawal cells p withdrawn number withdraw.NotPlaced = Unit {0}
-RefusesWithdrawal cells p withdrawn number withdraw.NotYours =
-    CellShows cells number (λ entry. entry.item.publisher ≡ p → ⊥)
-RefusesWithdrawal cells p withdrawn number withdraw.AlreadyWithdrawn =
-    CellShows cells number (λ entry. entry.item.publisher ≡ p)
+RefusesWithdrawal cells p withdrawn number (withdraw.NotYours told) =
+    IsEntryOf cells number told × (told.entry.item.publisher ≡ p → ⊥)
+RefusesWithdrawal cells p withdrawn number (withdraw.AlreadyWithdrawn told) =
+    IsEntryOf cells number told × (told.entry.item.publisher ≡ p)
     × (has_number number withdrawn ≡ true)
-RefusesWithdrawal cells p withdrawn number withdraw.Memory =
-    CellShows cells number (λ entry. IsOpenTo p withdrawn number entry
-    × (first_clash [] entry.item.body ≡ None))
+RefusesWithdrawal cells p withdrawn number (withdraw.Memory told) =
+    IsEntryOf cells number told × IsOpenTo p withdrawn number told.entry
+    × (first_clash [] told.entry.item.body ≡ None)
 
 -- the set that this publisher was fed, or the stream's error
 abbrev pub EndsWith : ℕ → Result StagedView EndError → Result (List Section) EndError → Type 0

@@ -1,11 +1,11 @@
 //! `Broker`: what all threads share. Its lock holds the desk.
 
 ghost use Rattle.std.specs.Prelude.{◌≡◌, ◌++◌, ◌∷◌, [], ℕ, IfErr, IfOk, IfSome};
-ghost use Rattle.std.specs.{Arc.{arc_value}, Prelude.{MatchOption}};
+ghost use Rattle.std.specs.{Arc.{arc_value}, Prelude.{MatchResult}};
 ghost use Rattle.rb_intake.specs.Passes.{IsAllPulled};
 ghost use Rattle.rb_sequence.specs.{Cells.{IsLastToken}, Items.{CountsUp}};
-ghost use Rattle.rb_broker.specs.Placing.{DeskCloses, DeskPlaces, DeskRefuses, ShowsEntry};
-ghost use Rattle.rb_broker.specs.Placing.{ShowsWhy};
+ghost use Rattle.rb_broker.specs.Placing.{DeskCloses, DeskPlaces, DeskRefuses, IsLastPulled};
+ghost use Rattle.rb_broker.specs.Placing.{ShowsEntry, ShowsWhy};
 
 use crate::hall::Hall;
 use crate::locked::{Locked, refused};
@@ -14,7 +14,7 @@ use crate::opened::Opened;
 use crate::refusal::{PlaceRefusal, RefusedItem};
 use cs_model::Schema;
 use rb_desk::Config;
-use rb_intake::{Intake, SequencerPass};
+use rb_intake::{Intake, NothingWaits, SequencerPass};
 use rb_sequence::{Entry, Item, Preparer, Sequence, Told, ToldLast};
 use rb_subscriber::{Auditor, Register};
 use std::alloc::Global;
@@ -110,10 +110,12 @@ impl<L: Hall> Broker<L> {
     }
 
     /// Pulls the item that waits first. `Sequencer::turn` calls it.
-    pub fn pull<R: Wait>(&self, rt: &R, pass: &mut SequencerPass) -> Option<Item>
+    pub fn pull<R: Wait>(&self, rt: &R, pass: &mut SequencerPass) -> Result<Item, NothingWaits>
         requires { pass.old.queue ≡ L.queue }
-        ensures item { MatchOption result ((pass.new ≡ pass.old) × IsAllPulled pass.new)
-            (λ item. pass.new ≡ record pass.old { pulled = pass.old.pulled ++ item ∷ [] }) }
+        ensures item { MatchResult result
+            (λ item. pass.new ≡ record pass.old { pulled = pass.old.pulled ++ item ∷ [] })
+            (λ nothing. (pass.new ≡ pass.old) × IsAllPulled pass.new
+            × (nothing.seen ≡ pass.new)) }
         ensures numbered { (p : ℕ) → CountsUp p pass.new.pulled }
     {
         self.intake.pop(rt, pass)
@@ -121,8 +123,11 @@ impl<L: Hall> Broker<L> {
 
     /// Places an item under this number, in one hold of the lock: its cell is set, and the desk has
     /// placed the number. All memory is allocated before the hold: the item's canonical form, its
-    /// box and, for the first number of a segment, its cells. `Sequencer::turn` calls it. It asks
-    /// for the sequencer's pass, of which there is one, so that nobody else places.
+    /// box and, for the first number of a segment, its cells. `Sequencer::turn` calls it.
+    ///
+    /// It asks for the sequencer's pass, of which there is one, and for the last item that the pass
+    /// pulled; the number is how many it pulled. So only the pass's owner places, and only what it
+    /// pulled.
     ///
     /// Each refusal hands the item back.
     pub fn place_next<R: Wait>(
@@ -133,23 +138,25 @@ impl<L: Hall> Broker<L> {
         item: Item,
         number: u64,
     ) -> Result<Told, RefusedItem>
-        requires { _pass.old.queue ≡ L.queue }
+        requires queue { _pass.old.queue ≡ L.queue }
+        requires last { IsLastPulled _pass.old item number }
         ensures pass { _pass.new ≡ _pass.old }
         ensures ok { IfOk result (λ told. ShowsEntry L.cells told
             (record { number = number; item = item })) }
         ensures placed { IfOk result (λ told. DeskPlaces L.limits told.number) }
         ensures err { IfErr result (λ refused. (refused.item ≡ item)
-            × ShowsWhy L.cells refused.why) }
-        ensures desk { IfErr result (λ refused. DeskRefuses L.limits L.cells refused.why) }
+            × ShowsWhy L.cells number refused.why) }
+        ensures desk { IfErr result (λ refused.
+            DeskRefuses L.limits L.cells number refused.why) }
     {
         let Ok(form) = item.form(alloc) else {
             let why = PlaceRefusal::Memory;
             return Err(RefusedItem { why, item });
         };
         let entry = Entry::new(alloc, number, item, form);
-        if number == 0 || number > self.sequence.capacity() {
+        if number > self.sequence.capacity() {
             let locked = self.locked.lock(rt);
-            return Err(refused(locked.refuses(), entry));
+            return Err(refused(locked.refuses(number), entry));
         }
         match self.preparer.ready(alloc, entry) {
             Ok(ready) => {

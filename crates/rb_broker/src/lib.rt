@@ -21,7 +21,7 @@ pub use maker::{MOST_PUBLISHERS, PublisherMaker};
 pub use opened::Opened;
 pub use publisher::Publisher;
 pub use refusal::{
-    AddRefusal, PlaceRefusal, RefusedItem, RefusedResume, RefusedSubscription, ResumeError,
-    SendRefusal, SubscribeError, TakeError, WithdrawRefusal,
+    AddRefusal, Occupied, PlaceRefusal, RefusedItem, RefusedResume, RefusedSubscription,
+    ResumeError, SendRefusal, SubscribeError, TakeError, WithdrawRefusal,
 };
 pub use staged::StagedSet;

@@ -1,20 +1,19 @@
 //! What the broker's lock holds: the desk, what sets the cells of the sequence, and the register of
 //! the subscriptions.
 
-ghost use Rattle.std.specs.Prelude.{◌≡◌, Err, IsSome, length};
-ghost use Rattle.rb_desk.specs.declared.refusal.DeskRefusal.TheVariants as refusal;
+ghost use Rattle.std.specs.Prelude.{◌≡◌, Err, IsSome, Some, length};
 ghost use Rattle.rb_desk.specs.Journaled.{counted_steps, is_own};
 ghost use Rattle.std.proofs.Props.{props};
-ghost use Rattle.rb_sequence.specs.Cells.{IsReadyFor};
+ghost use Rattle.rb_sequence.specs.Cells.{HasCell, IsReadyFor};
 ghost use Rattle.rb_broker.specs.Holding.{IsDeskOf};
-ghost use Rattle.rb_broker.specs.Placing.{ClosesBoth, IsWhy, PlacesEntry, RefusesPlace};
+ghost use Rattle.rb_broker.specs.Placing.{ClosesBoth, PlacesEntry, RefusesPlace};
 ghost use Rattle.rb_broker.specs.Placing.{ShowsClosing, number_to_place};
 
 use crate::hall::Hall;
-use crate::refusal::{PlaceRefusal, RefusedItem};
+use crate::refusal::{Occupied, PlaceRefusal, RefusedItem};
 use rb_desk::laws::{only_subscribe_and_close, steps_are_counted};
 use rb_desk::{Desk, DeskRefusal};
-use rb_sequence::{Entry, Filler, Ready, Told, ToldLast};
+use rb_sequence::{AlreadySet, Entry, Filler, Ready, Told, ToldLast};
 use rb_subscriber::Register;
 
 /// The desk of a broker, the filler of its sequence, and the register of its subscriptions. The
@@ -49,51 +48,56 @@ impl<L: Hall> Locked<L> {
         let _steps = self.desk.steps();
         let number = ready.number();
         match self.desk.prepare() {
-            Err(why) => Err(refused(self.place_refusal(why), ready.into_entry())),
+            Err(why) => Err(refused(self.place_refusal(why, number), ready.into_entry())),
             Ok(next) if next != number => {
-                Err(refused(PlaceRefusal::Occupied, ready.into_entry()))
+                let why = PlaceRefusal::Occupied(Occupied::Next(next));
+                Err(refused(why, ready.into_entry()))
             }
             Ok(_) => match self.filler.fill(ready) {
                 Ok(told) => {
                     self.desk.place();
                     Ok(told)
                 }
-                Err(entry) => Err(refused(PlaceRefusal::Occupied, entry)),
+                Err(AlreadySet { entry, occupant }) => {
+                    let why = PlaceRefusal::Occupied(Occupied::Set(occupant));
+                    Err(refused(why, entry))
+                }
             },
         }
     }
 
     /// Why a number without a cell isn't placed.
-    pub(crate) fn refuses(&self) -> PlaceRefusal
-        ensures why { RefusesPlace L.cells self.now.desk result }
+    pub(crate) fn refuses(&self, number: u64) -> PlaceRefusal
+        requires { HasCell L.cells number → ⊥ }
+        ensures why { RefusesPlace L.cells number self.now.desk result }
         ensures held { IsDeskOf L.limits self.now.desk }
     {
         let _steps = self.desk.steps();
         match self.desk.prepare() {
-            Err(why) => self.place_refusal(why),
-            Ok(_) => PlaceRefusal::Occupied,
+            Err(why) => self.place_refusal(why, number),
+            Ok(next) => PlaceRefusal::Occupied(Occupied::Next(next)),
         }
     }
 
-    // why an item isn't placed where the desk's `prepare` refuses
-    fn place_refusal(&self, why: DeskRefusal) -> PlaceRefusal
+    // why an item isn't placed under a number where the desk's `prepare` refuses
+    fn place_refusal(&self, why: DeskRefusal, _number: u64) -> PlaceRefusal
         requires { number_to_place self.now.desk ≡ Err why }
-        ensures { IsWhy L.cells self.now.desk.picture.closing (Err why) result }
+        ensures { RefusesPlace L.cells _number self.now.desk result }
     {
         match why {
             DeskRefusal::JournalFull => PlaceRefusal::JournalFull,
-            DeskRefusal::Closed => self.closed(),
+            DeskRefusal::Closed => PlaceRefusal::Closed(self.closed()),
             _ => PlaceRefusal::SequenceFull,
         }
     }
 
-    // the refusal where the sequence is closed, with the token of the closing cell
-    fn closed(&self) -> PlaceRefusal
+    // the token of the closing cell, where the desk is closed
+    fn closed(&self) -> ToldLast
         requires { IsSome self.now.desk.picture.closing }
-        ensures { IsWhy L.cells self.now.desk.picture.closing (Err refusal.Closed) result }
+        ensures { ShowsClosing L.cells self.now.desk.picture.closing (Some result) }
     {
         match &self.closing {
-            Some(told) => PlaceRefusal::Closed(told.again()),
+            Some(told) => told.again(),
             None => unreachable!(),
         }
     }

@@ -71,6 +71,7 @@ impl<L: Hall> PublisherMaker<L> {
             stream: PieceParser::new(alloc),
             pass: broker.intake.publisher(&mut self.pass),
             withdrawn: BTreeSet::new(alloc),
+            closing: None,
             of: PhantomData,
         })
     }

@@ -1,7 +1,7 @@
 //! `Publisher`: a stream of bytes that becomes staged changesets, and their way into the intake.
 
 ghost use Rattle.std.specs.Prelude.{◌≡◌, ◌<◌, ◌++◌, ◌∷◌, [], suc, length, false, None, Some, Err};
-ghost use Rattle.std.specs.Prelude.{IsOk, IfOk, IfErr, OnOk, OnErr};
+ghost use Rattle.std.specs.Prelude.{IsOk, IfOk, IfErr, IfNone, IfSome, OnOk, OnErr};
 ghost use Rattle.cs_model.specs.Changeset.{AgreeOnShapes, most_bytes};
 ghost use Rattle.cs_model.specs.declared.origin.Origin.TheVariants.{Withdraws};
 ghost use Rattle.cs_parse.specs.End.{admitted_answer, left_by};
@@ -9,8 +9,9 @@ ghost use Rattle.cs_parse.specs.Progress.{FeedAnswers, advanced, answer_at_end, 
 ghost use Rattle.cs_parse.specs.declared.fault.FaultKind.TheVariants.{TooLong};
 ghost use Rattle.cs_parse.specs.declared.fault.ParseFault.{ParseFault};
 ghost use Rattle.rb_broker.specs.Publishers.{item_of};
-ghost use Rattle.rb_broker.specs.Refusing.{EndsWith, RefusesWithdrawal, SendsNothing, has_number};
-ghost use Rattle.rb_broker.specs.Refusing.{with_number};
+ghost use Rattle.rb_broker.specs.Refusing.{EndsWith, KeepsClosing, RefusesWithdrawal, SendsNothing};
+ghost use Rattle.rb_broker.specs.Refusing.{has_number, with_number};
+ghost use Rattle.rb_sequence.specs.Cells.{IsLastToken, LastToken};
 
 use crate::broker::Broker;
 use crate::hall::Hall;
@@ -21,7 +22,7 @@ use cs_invert::withdrawal_agreeing;
 use cs_model::{Changeset, Origin, Schema};
 use cs_parse::{EndError, ParseError, PieceParser};
 use rb_intake::PublisherPass;
-use rb_sequence::{Item, Sequence};
+use rb_sequence::{Item, Sequence, ToldLast};
 use std::alloc::Global;
 use std::collections::BTreeSet;
 use std::marker::{Model, PhantomData};
@@ -34,13 +35,16 @@ pub struct Publisher<L: Hall> {
     pub(crate) stream: PieceParser,
     pub(crate) pass: PublisherPass,
     pub(crate) withdrawn: BTreeSet<u64>,
+    // shows that the sequence is closed, once a sending found it so
+    pub(crate) closing: Option<ToldLast>,
     pub(crate) of: PhantomData<L>,
 }
 
 impl<L: Hall> Model for Publisher<L> {
-    ghost use Rattle.std.specs.Prelude.{◌≡◌};
+    ghost use Rattle.std.specs.Prelude.{◌≡◌, IfSome};
     ghost use Rattle.std.specs.Arc.{arc_value};
     ghost use Rattle.rb_broker.specs.Publishers.{PublisherView};
+    ghost use Rattle.rb_sequence.specs.Cells.{IsLastToken};
 
     ghost Value = { PublisherView };
 
@@ -50,9 +54,10 @@ impl<L: Hall> Model for Publisher<L> {
       stream = p.stream;
       sent = p.pass.sent;
       withdrawn = p.withdrawn.keys;
+      closing = p.closing;
     } };
 
-    ghost invariant = { λ p. p.pass.queue ≡ L.queue };
+    ghost invariant = { λ p. (p.pass.queue ≡ L.queue) × IfSome p.closing (IsLastToken L.cells) };
 }
 
 impl<L: Hall> Publisher<L> {
@@ -139,7 +144,7 @@ impl<L: Hall> Publisher<L> {
     /// publisher's sendings, from 1.
     ///
     /// Refuses `Closed` if the sequence is closed, and `Full` if the intake is full. Both hand the
-    /// set back.
+    /// set back. After `Closed`, each later call refuses so.
     pub fn send<R: Wait>(
         &mut self,
         rt: &R,
@@ -150,10 +155,13 @@ impl<L: Hall> Publisher<L> {
         ensures own { IfOk result (λ own. own ≡ suc (length self.old.sent)) }
         ensures ok { IfOk result (λ own. self.new
             ≡ record self.old { sent = self.old.sent ++ item_of set own ∷ [] }) }
-        ensures err { OnErr result (self.new ≡ self.old) }
+        ensures err { IfErr result (KeepsClosing self.old self.new) }
         ensures back { IfErr result (SendsNothing L.cells set) }
+        // Once it answered `Closed`, it does so for good.
+        ensures lasts { (told : LastToken) → self.old.closing ≡ Some told
+            → result ≡ Err (SendRefusal.Closed told set) }
     {
-        if let Some(last) = broker.sequence().closing() {
+        if let Some(last) = self.find_closing(broker) {
             return Err(SendRefusal::Closed(last, set));
         }
         // 2^64 sendings never happen
@@ -180,10 +188,27 @@ impl<L: Hall> Publisher<L> {
         }
     }
 
+    // a token of the closing cell, if it is set; the publisher keeps one too
+    fn find_closing(&mut self, broker: &Broker<L>) -> Option<ToldLast>
+        ensures some { IfSome result (λ told. IsLastToken L.cells told
+            × (self.new ≡ record self.old { closing = Some told })) }
+        ensures none { IfNone result (self.new ≡ self.old) }
+        ensures lasts { (told : LastToken) → self.old.closing ≡ Some told → result ≡ Some told }
+    {
+        if self.closing.is_none() {
+            self.closing = broker.sequence().closing();
+        }
+        match &self.closing {
+            Some(told) => Some(told.again()),
+            None => None,
+        }
+    }
+
     /// Stages the withdrawal of entry `number`, which this publisher sent.
     ///
     /// Refuses, in this order, `NotPlaced` if the entry's cell shows nothing, `NotYours`, and
-    /// `AlreadyWithdrawn` if an earlier call withdrew the entry.
+    /// `AlreadyWithdrawn` if an earlier call withdrew the entry. All but `NotPlaced` hand out a
+    /// token that shows the entry.
     pub fn withdraw(
         &mut self,
         alloc: Global,
@@ -204,16 +229,16 @@ impl<L: Hall> Publisher<L> {
         let told = sequence.tell(number).ok_or(WithdrawRefusal::NotPlaced)?;
         let entry = sequence.get_told(&told);
         if entry.publisher() != self.pass.publisher() {
-            return Err(WithdrawRefusal::NotYours);
+            return Err(WithdrawRefusal::NotYours(told));
         }
         if self.withdrawn.contains(&number) {
-            return Err(WithdrawRefusal::AlreadyWithdrawn);
+            return Err(WithdrawRefusal::AlreadyWithdrawn(told));
         }
         let Ok(body) = withdrawal_agreeing(alloc, entry.body()) else {
-            return Err(WithdrawRefusal::Memory);
+            return Err(WithdrawRefusal::Memory(told));
         };
         if self.withdrawn.insert(number).is_err() {
-            return Err(WithdrawRefusal::Memory);
+            return Err(WithdrawRefusal::Memory(told));
         }
         Ok(StagedSet {
             publisher: self.pass.publisher(),

@@ -4,7 +4,7 @@ use crate::hall::Hall;
 use crate::staged::StagedSet;
 use cs_apply::Tables;
 use rb_desk::DeskError;
-use rb_sequence::{Item, ToldLast};
+use rb_sequence::{Item, Occupant, Told, ToldLast};
 use rb_subscriber::Lost;
 use thiserror::Error;
 
@@ -31,12 +31,21 @@ pub enum PlaceRefusal {
     /// The sequence has reached its capacity.
     #[error("the sequence is full")]
     SequenceFull,
-    /// The next number isn't the one that was asked for, or its cell is set.
+    /// Another number is the next one, or the cell of this one is set.
     #[error("the cell is set")]
-    Occupied,
+    Occupied(Occupied),
     /// Memory ran out.
     #[error("out of memory")]
     Memory,
+}
+
+/// What stands in the way of a number that `Broker::place_next` was to place.
+#[derive(Debug, Drop)]
+pub enum Occupied {
+    /// The desk places this number next, and not the one that was asked for.
+    Next(u64),
+    /// The number is the next one, and its cell is set. The token shows which entry is there.
+    Set(Occupant),
 }
 
 /// An item that `Broker::place_next` did not place, and why.
@@ -48,30 +57,31 @@ pub struct RefusedItem {
     pub item: Item,
 }
 
-/// Why `Publisher::send` sends nothing. The publisher is as before, and the set comes back.
+/// Why `Publisher::send` sends nothing. The set comes back.
 #[derive(Drop)]
 pub enum SendRefusal<L: Hall> {
-    /// The sequence is closed. The token shows its last number.
+    /// The sequence is closed. The token shows its last number. The publisher keeps a copy, and
+    /// refuses each later set so.
     Closed(ToldLast, StagedSet<L>),
-    /// The intake is full.
+    /// The intake is full. The publisher is as before.
     Full(StagedSet<L>),
 }
 
-/// Why `Publisher::withdraw` stages nothing. The publisher is as before.
-#[derive(Clone, Copy, Debug, PartialEq, Eq, Error)]
+/// Why `Publisher::withdraw` stages nothing. The publisher is as before. A token shows the entry.
+#[derive(Debug, Drop, Error)]
 pub enum WithdrawRefusal {
     /// No entry has this number.
     #[error("there is no such entry")]
     NotPlaced,
     /// Another publisher sent the entry.
     #[error("the entry is another publisher's")]
-    NotYours,
+    NotYours(Told),
     /// The publisher withdrew the entry already.
     #[error("the entry is withdrawn already")]
-    AlreadyWithdrawn,
+    AlreadyWithdrawn(Told),
     /// Memory ran out.
     #[error("out of memory")]
-    Memory,
+    Memory(Told),
 }
 
 /// Why `Broker::subscribe` makes no subscription. The broker is as before.

@@ -6,3 +6,4 @@ pub mod Withdrawn
 pub mod Sendings
 pub mod Bodies
 pub mod Singly
+pub mod Batched

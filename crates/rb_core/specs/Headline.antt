@@ -6,6 +6,7 @@ use Rattle.cs_parse.specs.Progress.{Took}
 use Rattle.rb_sequence.specs.Entry.{Entry}
 use Rattle.rb_sequence.specs.Items.{own_of}
 use Rattle.rb_subscriber.specs.Accept.{HasSingleTables}
+use Rattle.rb_subscriber.specs.Batches.{HasBatchTables}
 use Rattle.rb_subscriber.specs.Endpoint.{Endpoint}
 use Rattle.rb_core.specs.declared.event.Event.{Event}
 use Rattle.rb_core.specs.declared.publisher.PublisherState.{PublisherState}
@@ -23,7 +24,10 @@ HasTakenFed publisher sender = Took publisher.stream sender.text
 -- of the subscriptions: each has the start, link, mark and tables of its subscription, and its
 -- cursor is the last number that the subscription accepted. Where what a subscription accepted
 -- applies singly, without conflict, to empty tables, the tables of its endpoint are what one thread
--- gets that applies it so.
+-- gets that applies it so. Whether or not it applies singly: the batches that a subscription
+-- accepted, each the entries of one delivery, are its accepted entries, in order. The tables of its
+-- endpoint are what the groups of the batches leave, applied to empty tables one batch after
+-- another.
 -- Each publisher's entries are the front of what it sent, in that order, and the rest is in hand or
 -- in the intake; each sending is placed once; each entry is a sending. Each publisher's stream has
 -- taken what the publisher was fed.
@@ -40,6 +44,10 @@ pub record KeepsHeadline (schema : List Shape) (events : List Event) (answers : 
       → slice_get (world_told schema events answers).subscribers s ≡ Some subscriber
       → (end : Endpoint) × (slice_get new.endpoints s ≡ Some end)
       × HasSingleTables (empty_tables schema) subscriber.accepted end.tables
+  pub batches : (s : ℕ) (subscriber : Subscriber)
+      → slice_get (world_told schema events answers).subscribers s ≡ Some subscriber
+      → (end : Endpoint) × (slice_get new.endpoints s ≡ Some end)
+      × HasBatchTables (empty_tables schema) subscriber.batches subscriber.accepted end.tables
   pub in_order : (p : ℕ) (sender : Sender)
       → slice_get (world_told schema events answers).senders p ≡ Some sender
       → IsFront (own_of p (items_of new.sequence)) sender.sent

@@ -162,10 +162,12 @@ pub record Acceptance (old : World) : Type 0 where
   pub offered : IsIn delivery subscriber.deliveries
   pub accepts : AcceptsDelivery (endpoint_of subscriber) old.sequence delivery end
 
--- the subscription then: it has the delivery's entries, and the endpoint's tables
+-- The subscription then: it has accepted the delivery's entries, as one more batch, and it has the
+-- endpoint's tables.
 abbrev pub after_acceptance : (old : World) → Acceptance old → Subscriber
 after_acceptance old made = record made.subscriber {
   accepted = made.subscriber.accepted ++ brought old.sequence made.delivery;
+  batches = made.subscriber.batches ++ brought old.sequence made.delivery ∷ [];
   tables = made.end.tables;
 }
 
@@ -175,8 +177,8 @@ pub record Accepts (old new : World) : Type 0 where
   pub kept : new ≡ with_subscriber old made.s (after_acceptance old made)
 
 -- A subscription falls while it accepts a delivery that was made to it, and that its endpoint would
--- accept. What it accepted and its tables are as before the accept or as after it, both together.
--- It has fallen.
+-- accept. What it accepted, its batches and its tables are as before the accept or as after it, all
+-- together. It has fallen.
 pub record Crashes (old new : World) : Type 0 where
   pub made : Acceptance old
   pub kept : (new ≡ with_subscriber old made.s (record made.subscriber { fallen = true }))
@@ -235,10 +237,11 @@ Leads old (mid ∷ rest) new = Moves old mid × Leads mid rest new
 abbrev pub HasRun : List Entry → Subscriber → Type 0
 HasRun sequence q = q.accepted ≡ part sequence q.start (length q.accepted)
 
--- `r` is closed, with the accepted entries and the tables of `q`
+-- `r` is closed, with the accepted entries, the batches and the tables of `q`
 pub record StaysClosed (q r : Subscriber) : Type 0 where
   pub closed : r.closed ≡ true
   pub accepted : r.accepted ≡ q.accepted
+  pub batches : r.batches ≡ q.batches
   pub tables : r.tables ≡ q.tables
 
 -- the items of entries

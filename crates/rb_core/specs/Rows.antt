@@ -1,28 +1,54 @@
--- Worked rows as theorems: what is accepted by the deliveries that events and replies report, and
--- whether it is a run. The entries have no changes, so all tables are the same.
-use Rattle.std.specs.Prelude.{◌≡◌, ℕ, zero, suc, false, List, [], ◌∷◌, length, map, refl}
-use Rattle.std.proofs.Common.{ap, subst, sym}
+-- Worked rows as theorems: what is accepted by the deliveries that events and replies report,
+-- whether it is a run, and which tables the batches leave.
+use Rattle.std.specs.Prelude.{◌≡◌, ℕ, zero, suc, pos, true, false, List, [], ◌∷◌, length, map, refl}
+use Rattle.std.specs.Prelude.{Option, Result, Err, OnOk}
+use Rattle.std.specs.FinMap as by_key
+use Rattle.std.proofs.Common.{inl, ap, subst, sym, ◌∙◌}
+use Rattle.cs_apply.proofs.rows_by_key.Keys.{keys_total}
+use Rattle.cs_apply.specs.declared.conflict.Conflict.{Conflict}
+use Rattle.cs_apply.specs.declared.conflict.ConflictKind.TheVariants as kind
+use Rattle.cs_apply.specs.Effect.{inserted}
+use Rattle.cs_apply.specs.Single.{next_or_conflict, single_from, with_rows}
 use Rattle.cs_apply.specs.State.{TableState}
+use Rattle.cs_model.specs.declared.change.Change.{Change}
+use Rattle.cs_model.specs.declared.change.Op.TheVariants.{Insert, Delete}
 use Rattle.cs_model.specs.declared.origin.Origin.TheVariants.{Sent}
+use Rattle.cs_model.specs.declared.row_key.RowKey.{RowKey}
+use Rattle.cs_model.specs.declared.shape.Shape.{Shape}
+use Rattle.cs_model.specs.declared.value.Value.{Value}
+use Rattle.cs_model.specs.declared.value.Value.TheVariants.{Integer, Text}
+use Rattle.cs_model.specs.Key.{key_of}
+use Rattle.cs_model.specs.PackedChanges.{change_of}
+use Rattle.cs_model.specs.Row.{row_fields}
+use Rattle.cs_model.specs.Section.{Section}
+use Rattle.cs_write.specs.Canon.{by_shape}
 use Rattle.rb_desk.specs.declared.delivery.Delivery.{Delivery}
 use Rattle.rb_sequence.specs.Entry.{Entry}
-use Rattle.rb_subscriber.specs.Accept.{part}
+use Rattle.rb_subscriber.specs.Accept.{ConflictsSingly, part}
+use Rattle.rb_subscriber.specs.Batches.{AppliesBatches, HasBatchTables}
 use Rattle.rb_core.specs.Moves.{HasRun}
 use Rattle.rb_core.specs.State.{empty_tables}
-use Rattle.rb_core.specs.Told.{accepted}
+use Rattle.rb_core.specs.Told.{accepted, crashed}
 use Rattle.rb_core.specs.World.{Subscriber}
 
--- three entries, and a subscription that was delivered these
-abbrev numbered_entry : ℕ → Entry
-numbered_entry n = record {
+-- ---- runs
+
+-- an entry with this body
+abbrev entry_with : ℕ → List Section → Entry
+entry_with n body = record {
   number = n;
   item = record {
     publisher = 0;
     own = n;
     origin = Sent;
-    body = [];
+    body = body;
   };
 }
+
+-- Three entries without changes, so all tables are the same, and a subscription that was delivered
+-- these.
+abbrev numbered_entry : ℕ → Entry
+numbered_entry n = entry_with n []
 
 abbrev sequence : List Entry
 sequence = numbered_entry 1 ∷ numbered_entry 2 ∷ numbered_entry 3 ∷ []
@@ -41,6 +67,7 @@ subscribed_to deliveries = record {
   start = 0;
   base = empty_tables [];
   accepted = [];
+  batches = [];
   tables = empty_tables [];
   link = 1;
   closed = false;
@@ -97,3 +124,92 @@ pub repeating_is_no_run : (tables : TableState)
     → HasRun sequence (record repeating { tables = tables }) → ⊥
 repeating_is_no_run tables run =
     subst IsTwo (sym (second_of_run (record repeating { tables = tables }) run)) tt
+
+-- ---- batches
+
+-- a table `t`, whose first column is the key, and tables in which it has the row (1, 'q')
+abbrev shape_t : Shape
+shape_t = record { name = 116 ∷ []; flags = 1 ∷ 0 ∷ [] }
+
+abbrev row_one : ℕ → List Value
+row_one letter = Integer (pos 1) ∷ Text (letter ∷ []) ∷ []
+
+-- the entries 1 and 2: INSERT of the row (1, 'x'), and DELETE of it
+abbrev insert_x : Change
+insert_x = change_of Insert false [] (row_fields (row_one 120))
+
+abbrev delete_x : Change
+delete_x = change_of Delete false (row_fields (row_one 120)) []
+
+abbrev changing_entry : ℕ → Change → Entry
+changing_entry n change = entry_with n (record { shape = shape_t; changes = change ∷ [] } ∷ [])
+
+abbrev inserts_x : Entry
+inserts_x = changing_entry 1 insert_x
+
+abbrev deletes_x : Entry
+deletes_x = changing_entry 2 delete_x
+
+abbrev both_of_x : List Entry
+both_of_x = inserts_x ∷ deletes_x ∷ []
+
+abbrev key_one : RowKey
+key_one = key_of 0 (1 ∷ 0 ∷ []) insert_x
+
+abbrev holding_q : TableState
+holding_q = record {
+  schema = shape_t ∷ [];
+  kept = true ∷ [];
+  rows = by_key.insert by_key.empty key_one (row_one 113);
+}
+
+-- Singly, the INSERT conflicts with the row that is there.
+abbrev insert_finds : Option (List Value) → Result TableState Conflict
+insert_finds found = with_rows holding_q
+    (next_or_conflict (λ next after. single_from (shape_t ∷ []) (true ∷ []) [] next after) 0
+    (inserted holding_q.rows key_one (row_one 120) found))
+
+pub insert_conflicts : insert_finds (by_key.get holding_q.rows key_one)
+    ≡ Err (record { position = 0; kind = kind.Conflict })
+insert_conflicts = ap insert_finds
+    (by_key.get-insert keys_total by_key.empty key_one (row_one 113) key_one)
+
+pub both_conflict_singly : ConflictsSingly holding_q both_of_x
+unfolding single_from
+both_conflict_singly = inl (record { position = 0; kind = kind.Conflict }, insert_conflicts)
+
+-- Accepted as one delivery both apply, since their group has no change. The tables stay, and they
+-- are those of the one batch.
+abbrev before_x : Subscriber
+before_x = record (subscribed_to (delivery 1 1 2 ∷ [])) { base = holding_q; tables = holding_q }
+
+abbrev hiding : Subscriber
+hiding = accepted both_of_x 1 before_x
+
+pub hiding_keeps_q : hiding.tables ≡ holding_q
+unfolding by_shape single_from
+hiding_keeps_q = refl
+
+pub hiding_has_batch_tables :
+    HasBatchTables holding_q hiding.batches hiding.accepted hiding.tables
+unfolding by_shape single_from
+hiding_has_batch_tables = record { entries = refl; applied = (holding_q, refl, refl) }
+
+-- As two batches they don't apply: no tables are those of these batches.
+pub apart_they_conflict : (now : TableState)
+    → AppliesBatches holding_q ((inserts_x ∷ []) ∷ (deletes_x ∷ []) ∷ []) now → ⊥
+unfolding by_shape single_from
+apart_they_conflict now applied = subst (λ (r : Result TableState Conflict). OnOk r ⊥)
+    (sym insert_conflicts ∙ applied.1) tt
+
+-- A fall adds the batch if the accept was kept, and else none.
+pub kept_fall_has_batch : (crashed both_of_x 1 true before_x).batches ≡ both_of_x ∷ []
+kept_fall_has_batch = refl
+
+pub lost_fall_has_none : (crashed both_of_x 1 false before_x).batches ≡ []
+lost_fall_has_none = refl
+
+-- A batch of the first entry alone isn't the batches of both, whatever the tables are.
+pub left_out_is_no_batch : (now : TableState)
+    → HasBatchTables holding_q ((inserts_x ∷ []) ∷ []) both_of_x now → ⊥
+left_out_is_no_batch now has = subst IsTwo (sym (ap length has.entries)) tt

@@ -152,6 +152,8 @@ with_accepted entries q =
     record q {
       accepted = q.accepted
           ++ entries;
+      batches = q.batches
+          ++ entries ∷ [];
       tables = if_applied q.tables (single q.tables (group_of (joined_bodies entries)));
     }
 
@@ -160,7 +162,7 @@ abbrev pub delivery_told : ℕ → Subscriber → Option Delivery
 delivery_told d q = find (λ delivery. delivery.number == d) q.deliveries
 
 -- It accepts the delivery of this number: the entries that the delivery brings go to the end of
--- what it accepted, and the group of their bodies is applied to its tables.
+-- what it accepted, as one more batch, and the group of their bodies is applied to its tables.
 abbrev pub accepted_told : List Entry → Option Delivery → Subscriber → Subscriber
 accepted_told sequence None q = q
 accepted_told sequence (Some delivery) q = with_accepted (brought sequence delivery) q

@@ -15,12 +15,14 @@ pub record Sender : Type 0 where
   pub sent : List Item
 
 -- A subscription: the number after which it began, the tables that it began with, the accepted
--- entries in order, and its tables. It has its current link, whether it is closed, whether it has
--- fallen, and all deliveries ever made to it.
+-- entries in order, the batches in which they were accepted, and its tables. A batch is the entries
+-- of one accepted delivery. It has its current link, whether it is closed, whether it has fallen,
+-- and all deliveries ever made to it.
 pub record Subscriber : Type 0 where
   pub start : ℕ
   pub base : tables.TableState
   pub accepted : List Entry
+  pub batches : List (List Entry)
   pub tables : tables.TableState
   pub link : ℕ
   pub closed : Bool
@@ -60,6 +62,7 @@ subscriber_begun start link base = record {
   start = start;
   base = base;
   accepted = [];
+  batches = [];
   tables = base;
   link = link;
   closed = false;

@@ -10,6 +10,7 @@ ghost use Rattle.rb_core.specs.Moves.{AreAllOf, IsSending};
 ghost use Rattle.rb_core.specs.World.{Sender, Subscriber, World, world_begun};
 ghost use Rattle.rb_sequence.specs.Entry.{Entry};
 ghost use Rattle.rb_subscriber.specs.Accept.{AreChangesets, HasSingleTables};
+ghost use Rattle.rb_subscriber.specs.Batches.{HasBatchTables};
 
 use cs_apply::laws::rows_keep_columns;
 use rb_subscriber::laws::{accepted_apply_singly, accepting_is_step};
@@ -78,3 +79,13 @@ pub fn tables_apply_singly()
     accepted_apply_singly();
     rows_keep_columns();
 }
+
+/// After any moves from the start: the batches that a subscription accepted are its accepted
+/// entries, in order, and its tables are what the groups of the batches leave, applied one batch
+/// after another to the tables it began with.
+pub fn tables_are_of_batches()
+    ensures { (mids : List World) (new : World) (s : ℕ) (subscriber : Subscriber)
+        → Leads world_begun mids new → slice_get new.subscribers s ≡ Some subscriber
+        → HasBatchTables subscriber.base subscriber.batches subscriber.accepted
+        subscriber.tables }
+{}

@@ -32,6 +32,7 @@ ghost use Rattle.rb_desk.specs.Limits.{Limits};
 ghost use Rattle.rb_desk.specs.Steps.{replay};
 ghost use Rattle.rb_sequence.specs.Entry.{Entry};
 ghost use Rattle.rb_subscriber.specs.Accept.{brought, ConflictsSingly, HasSingleTables};
+ghost use Rattle.rb_subscriber.specs.Batches.{HasBatchTables};
 ghost use Rattle.rb_subscriber.specs.declared.refusal.AcceptRefusal.TheVariants as why;
 ghost use Rattle.rb_subscriber.specs.Endpoint.{Endpoint};
 
@@ -232,6 +233,23 @@ pub fn tables_apply_singly()
     courses::tables_apply_singly();
 }
 
+/// At any time of any run, each subscription has an endpoint in the broker. The batches that the
+/// subscription accepted, each the entries of one delivery, are its accepted entries, in order. The
+/// endpoint's tables are what the groups of the batches leave, applied to empty tables one batch
+/// after another. This holds whether or not the changesets apply singly without conflict.
+pub fn tables_are_of_batches()
+    ensures { (limits : Limits) (schema : List Shape) (events : List Event)
+        (answers : List Answer) (new : State) (s : ℕ) (subscriber : Subscriber)
+        → IsRunOf limits schema events answers new
+        → slice_get (world_told schema events answers).subscribers s ≡ Some subscriber
+        → (end : Endpoint) × (slice_get new.endpoints s ≡ Some end)
+        × HasBatchTables (empty_tables schema) subscriber.batches subscriber.accepted end.tables }
+{
+    runs_are_told();
+    accepted_is_gapless();
+    courses::tables_are_of_batches();
+}
+
 /// Every run keeps the headline: the laws above together. `run` says the same of its own events.
 pub fn runs_keep_the_headline()
     ensures { (limits : Limits) (schema : List Shape) (events : List Event)
@@ -244,6 +262,7 @@ pub fn runs_keep_the_headline()
     sendings_come_once_in_order();
     nothing_after_close();
     tables_apply_singly();
+    tables_are_of_batches();
 }
 
 /// In every run: if `Accept` is refused for a conflict, the changesets that the delivery would

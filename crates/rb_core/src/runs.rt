@@ -13,6 +13,7 @@ ghost use Rattle.rb_core.specs.Told.{Paired, world_told};
 ghost use Rattle.rb_core.specs.World.{Sender, Subscriber, endpoint_of};
 ghost use Rattle.rb_sequence.specs.Entry.{Entry};
 ghost use Rattle.rb_subscriber.specs.Accept.{HasSingleTables};
+ghost use Rattle.rb_subscriber.specs.Batches.{HasBatchTables};
 ghost use Rattle.rb_subscriber.specs.Endpoint.{Endpoint};
 
 use crate::event::Event;
@@ -87,6 +88,12 @@ pub fn run(
         → slice_get (world_told schema events.now r.1.items).subscribers s ≡ Some subscriber
         → (end : Endpoint) × (slice_get r.0.endpoints s ≡ Some end)
         × HasSingleTables (empty_tables schema) subscriber.accepted end.tables) }
+    // Whether or not it applies singly: the batches that a subscription accepted are its accepted
+    // entries, in order, and the tables of its endpoint are what the groups of the batches leave.
+    ensures batches { IfOk result (λ r. (s : ℕ) (subscriber : Subscriber)
+        → slice_get (world_told schema events.now r.1.items).subscribers s ≡ Some subscriber
+        → (end : Endpoint) × (slice_get r.0.endpoints s ≡ Some end)
+        × HasBatchTables (empty_tables schema) subscriber.batches subscriber.accepted end.tables) }
 {
     runs_keep_the_headline();
     served(alloc, config, schema, events)

@@ -2,6 +2,7 @@
 pub mod PublishedLaws
 pub mod OwnerLaws
 pub mod KeptLaws
+pub mod ConflictLaws
 pub mod StatusLaws
 pub mod ReportLaws
 pub mod DriveLaws

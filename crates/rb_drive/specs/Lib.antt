@@ -4,6 +4,7 @@ pub mod Published
 pub mod Staging
 pub mod Owners
 pub mod Kept
+pub mod Ending
 pub mod Outcome
 pub mod Report
 pub mod Run

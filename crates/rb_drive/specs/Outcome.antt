@@ -8,17 +8,18 @@ use Rattle.rb_sequence.specs.Item.{Item}
 use Rattle.rb_broker.specs.Publishers.{PublisherView}
 use Rattle.rb_sequencer.specs.Turns.{SequencerState}
 use Rattle.rb_subscriber.specs.Accept.{HasSingleTables}
-use Rattle.rb_subscriber.specs.Shown.{entries_told}
+use Rattle.rb_subscriber.specs.Shown.{entries_told, tokens_shown}
 use Rattle.rb_subscriber.specs.Subscription.{SubscriptionState, cursor_of}
 use Rattle.rb_close.specs.Finishing.{Finishes}
 use Rattle.rb_close.specs.Headline.{KeepsRunningHeadline}
 use Rattle.rb_close.specs.Meeting.{HasMet}
-use Rattle.rb_drive.specs.declared.accepting.SubscriberEnd.{SubscriberEnd}
-use Rattle.rb_drive.specs.declared.accepting.SubscriberEnd.TheVariants.{Drained, Conflict, Stopped}
+use Rattle.rb_drive.specs.declared.ending.SubscriberEnd.{SubscriberEnd}
+use Rattle.rb_drive.specs.declared.ending.SubscriberEnd.TheVariants.{Drained, Conflict, Stopped}
 use Rattle.rb_drive.specs.declared.accepting.EndedSubscriber.{EndedSubscriber}
 use Rattle.rb_drive.specs.declared.drive.Outcome.{Outcome}
 use Rattle.rb_drive.specs.declared.input.Given.{Given}
 use Rattle.rb_drive.specs.declared.publishing.FaultyLine.{FaultyLine}
+use Rattle.rb_drive.specs.Ending.{ShowsConflict}
 use Rattle.rb_drive.specs.Published.{AreByNumber, HaveSentLines, faulty_done, unsent_lines}
 
 -- ---- subscribers
@@ -32,23 +33,26 @@ pub record DrivenSubscriber : Type 0 where
 abbrev pub StartsEmpty : List Shape → SubscriptionState → Type 0
 StartsEmpty schema s = (s.start ≡ 0) × (s.base ≡ empty_tables schema)
 
--- a subscriber that is drained has accepted all that was placed; none was stopped
-abbrev pub IsEndAt : ℕ → SubscriberEnd → ℕ → Type 0
-IsEndAt placed Drained cursor = cursor ≡ placed
-IsEndAt placed (Conflict conflict) cursor = Unit {0}
-IsEndAt placed Stopped cursor = ⊥
+-- How a subscription ended, where so many entries were placed over these cells. A drained one has
+-- accepted all of them. One that met a conflict shows it, by the entry after its cursor. None was
+-- stopped.
+abbrev pub IsEndAt : Cells → ℕ → SubscriptionState → SubscriberEnd → Type 0
+IsEndAt cells placed s Drained = cursor_of s ≡ placed
+IsEndAt cells placed s (Conflict conflict shown) =
+    ShowsConflict cells s conflict (tokens_shown shown)
+IsEndAt cells placed s Stopped = ⊥
 
-abbrev pub IsEnded : ℕ → DrivenSubscriber → Type 0
-IsEnded placed one = IsEndAt placed one.ending (cursor_of one.subscription)
+abbrev pub IsEnded : Cells → ℕ → DrivenSubscriber → Type 0
+IsEnded cells placed one = IsEndAt cells placed one.subscription one.ending
 
 -- a subscription that has met the sequencer up to its cursor, and shows its tables
 abbrev pub HasMetAll : SequencerState → SubscriptionState → Type 0
 HasMetAll sequencer s = HasMet sequencer s × HasSingleTables s.base (entries_told s.told) s.tables
 
 -- the same, and it has ended as it should
-abbrev pub HasMetAndEnded : SequencerState → SubscriptionState → SubscriberEnd → Type 0
-HasMetAndEnded sequencer s ending =
-    HasMetAll sequencer s × IsEndAt (length sequencer.placed) ending (cursor_of s)
+abbrev pub HasMetAndEnded : Cells → SequencerState → SubscriptionState → SubscriberEnd → Type 0
+HasMetAndEnded cells sequencer s ending =
+    HasMetAll sequencer s × IsEndAt cells (length sequencer.placed) s ending
 
 -- ---- the whole
 
@@ -78,7 +82,8 @@ reported o = record {
 -- publishers, a sequencer and a token of the closing cell with which the broker was finished. Each
 -- publisher has sent the changesets of its lines, in order, up to those that are unsent. The faulty
 -- lines come by rising number. Each subscription began empty, and keeps the headline of a running
--- broker; if it is drained, it has accepted all that was placed.
+-- broker; if it is drained, it has accepted all that was placed, and if it met a conflict, it shows
+-- it.
 pub record IsDriven (cells : Cells) (schema : List Shape) (lines : List (List Given))
     (outcome : DriveOutcome) : Type 0 where
   pub publishers : List PublisherView
@@ -95,4 +100,4 @@ pub record IsDriven (cells : Cells) (schema : List Shape) (lines : List (List Gi
   pub begun : AllByRecursion (λ one. StartsEmpty schema one.subscription) outcome.subscribers
   pub headline : AllByRecursion (KeepsRunningHeadline cells publishers sequencer closing)
       (map (λ one. one.subscription) outcome.subscribers)
-  pub ended : AllByRecursion (IsEnded outcome.placed) outcome.subscribers
+  pub ended : AllByRecursion (IsEnded cells outcome.placed) outcome.subscribers

@@ -13,8 +13,8 @@ use Rattle.cs_parse.specs.declared.end.EndError.TheVariants.{Fault, Refused}
 use Rattle.rb_script.specs.Replies.{kind_name}
 use Rattle.rb_script.specs.Texts.{row_text}
 use Rattle.rb_subscriber.specs.Subscription.{cursor_of}
-use Rattle.rb_drive.specs.declared.accepting.SubscriberEnd.{SubscriberEnd}
-use Rattle.rb_drive.specs.declared.accepting.SubscriberEnd.TheVariants.{Drained, Conflict, Stopped}
+use Rattle.rb_drive.specs.declared.ending.SubscriberEnd.{SubscriberEnd}
+use Rattle.rb_drive.specs.declared.ending.SubscriberEnd.TheVariants.{Drained, Conflict, Stopped}
 use Rattle.rb_drive.specs.declared.publishing.FaultyLine.{FaultyLine}
 use Rattle.rb_drive.specs.Outcome.{DriveOutcome, DrivenSubscriber}
 
@@ -41,7 +41,7 @@ faulty_text one = (codes "publisher " ++ (decimal one.publisher ++ (codes " line
 -- how a subscriber ended
 abbrev pub ending_text : SubscriberEnd → List ℕ
 ending_text Drained = codes "drained"
-ending_text (Conflict conflict) = codes "conflict "
+ending_text (Conflict conflict shown) = codes "conflict "
     ++ (decimal conflict.position ++ (codes " " ++ decimal (code_of conflict.kind)))
 ending_text Stopped = codes "stopped"
 

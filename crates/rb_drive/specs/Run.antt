@@ -5,8 +5,8 @@ use Rattle.cs_model.specs.declared.shape.Shape.{Shape}
 use Rattle.rb_desk.specs.Limits.{Limits}
 use Rattle.rb_script.specs.Streams.{AppendsFront}
 use Rattle.rb_sequence.specs.Cells.{Cells}
-use Rattle.rb_drive.specs.declared.accepting.SubscriberEnd.{SubscriberEnd}
-use Rattle.rb_drive.specs.declared.accepting.SubscriberEnd.TheVariants.{Conflict}
+use Rattle.rb_drive.specs.declared.ending.SubscriberEnd.{SubscriberEnd}
+use Rattle.rb_drive.specs.declared.ending.SubscriberEnd.TheVariants.{Conflict}
 use Rattle.rb_drive.specs.declared.fault.DriveFault.{DriveFault}
 use Rattle.rb_drive.specs.declared.fault.DriveFault.TheVariants as fault
 use Rattle.rb_drive.specs.declared.input.Given.{Given}
@@ -18,7 +18,7 @@ use Rattle.rb_drive.specs.Report.{report_text}
 -- a subscriber ended by a conflict
 abbrev pub HasConflict : List SubscriberEnd → Type 0
 HasConflict [] = ⊥
-HasConflict (Conflict conflict ∷ rest) = Unit {0}
+HasConflict (Conflict conflict shown ∷ rest) = Unit {0}
 HasConflict (ending ∷ rest) = HasConflict rest
 
 -- the status of a drive: 3 if a subscriber ended by a conflict, and 0 if none did

@@ -2,11 +2,12 @@
 //! conflicts.
 
 ghost use Rattle.std.specs.Prelude.{◌≡◌};
+ghost use Rattle.rb_drive.specs.Ending.{EndsByRefusal, HasShownConflict, HasShownConflict-prop};
 ghost use Rattle.rb_drive.specs.Owners.{beginning_of};
 
-use crate::kept::{KeptSubscription, Settling};
+use crate::ending::{Settling, SubscriberEnd};
+use crate::kept::KeptSubscription;
 use crate::signs::Signs;
-use cs_apply::Conflict;
 use par_apply::Open;
 use rb_broker::{Broker, Hall, TakeError};
 use rb_desk::{Delivery, DeskError, DeskRefusal};
@@ -16,22 +17,14 @@ use std::alloc::Global;
 use std::sync::Wait;
 use std::thread::Threads;
 
-/// How a subscriber ended.
-#[derive(Clone, Copy, Debug, PartialEq, Eq)]
-pub enum SubscriberEnd {
-    /// It has accepted everything up to the last number.
-    Drained,
-    /// An entry conflicts with its rows. It has accepted all entries before it.
-    Conflict(Conflict),
-    /// All loops were ended first.
-    Stopped,
-}
-
-/// A subscriber: its subscription, and how it ended.
+/// A subscriber: its subscription, and how it ended. If that was a conflict, it has what the cells
+/// showed of the entry that conflicts.
 #[derive(Drop)]
 pub struct Accepting<L: Hall, S: Alter> {
     pub subscription: KeptSubscription<L, S>,
     pub ending: SubscriberEnd,
+    ghost shown: { HasShownConflict L.cells subscription
+        ending } by { HasShownConflict-prop L.cells subscription ending },
 }
 
 /// A subscriber that has ended, without the replica that it had.
@@ -70,7 +63,7 @@ impl<L: Hall, S: Alter> Accepting<L, S> {
             gate: &Open,
         };
         self.ending = accept_all(&workers, alloc, broker, signs, &mut self.subscription);
-        if self.ending == SubscriberEnd::Stopped {
+        if matches!(self.ending, SubscriberEnd::Stopped) {
             signs.stop();
         }
     }
@@ -83,7 +76,9 @@ fn accept_all<L: Hall, S: Alter, R: Threads + Wait + Sync>(
     signs: &Signs,
     subscription: &mut KeptSubscription<L, S>,
 ) -> SubscriberEnd
-    ensures { beginning_of subscription.new ≡ beginning_of subscription.old }
+    requires workers { workers.now.n ≡ L.limits.appliers }
+    ensures begun { beginning_of subscription.new ≡ beginning_of subscription.old }
+    ensures shown { HasShownConflict L.cells subscription.new result }
 {
     let rt = workers.rt;
     let mut looks: u64 = 0;
@@ -124,13 +119,20 @@ fn settling(
     accepted: Result<u64, SubscriptionError>,
     delivery: &Delivery,
     signs: &Signs,
-) -> Result<Settling, SubscriberEnd> {
+) -> Result<Settling, SubscriberEnd>
+    ensures { EndsByRefusal delivery.now accepted result }
+{
     match accepted {
         Ok(_) => Ok(Settling::Ack),
         Err(SubscriptionError::Unseen { .. }) => Ok(Settling::Nack),
-        Err(SubscriptionError::Refused(AcceptRefusal::Conflict(conflict))) => {
+        Err(
+            SubscriptionError::RefusedEntries {
+                why: AcceptRefusal::Conflict(conflict),
+                shown,
+            },
+        ) => {
             if delivery.first() == delivery.last() {
-                Err(SubscriberEnd::Conflict(conflict))
+                Err(SubscriberEnd::Conflict(conflict, shown))
             } else {
                 Ok(Settling::NackOpened)
             }

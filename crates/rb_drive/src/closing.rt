@@ -1,6 +1,8 @@
 //! Closes the database of a subscriber's replica at the end of a drive.
 
 ghost use Rattle.std.specs.Prelude.{◌≡◌, map, IfErr, IfOk};
+ghost use Rattle.std.specs.List.{AllByRecursion};
+ghost use Rattle.rb_drive.specs.Ending.{HasShownConflict};
 ghost use Rattle.rb_drive.specs.Owners.{beginning_of};
 ghost use Rattle.rb_drive.specs.Run.{IsOfThreads};
 
@@ -41,6 +43,8 @@ pub fn all_closed<L: Hall, S: Closable + Drop>(
 ) -> Result<Vec<EndedSubscriber<L>>, DriveFault>
     ensures begun { IfOk result (λ all. map (λ one. beginning_of one.subscription) all.items
         ≡ map (λ one. beginning_of one.subscription) accepting.items) }
+    ensures shown { IfOk result (λ all. AllByRecursion
+        (λ one. HasShownConflict L.cells one.subscription one.ending) all.items) }
     ensures err { IfErr result IsOfThreads }
 {
     let mut all = Vec::with_capacity(alloc, accepting.len())?;
@@ -55,6 +59,8 @@ fn closed<L: Hall, S: Closable + Drop>(
 ) -> Result<EndedSubscriber<L>, DriveFault>
     ensures begun { IfOk result (λ ended. beginning_of ended.subscription
         ≡ beginning_of one.subscription) }
+    ensures shown { IfOk result (λ ended.
+        HasShownConflict L.cells ended.subscription ended.ending) }
     ensures err { IfErr result IsOfThreads }
 {
     let Accepting {

@@ -12,13 +12,15 @@ ghost use Rattle.sqlite.specs.Held.{state};
 ghost use Rattle.rb_core.specs.State.{empty_tables};
 ghost use Rattle.rb_drive.specs.declared.input.Given.{Given as Line};
 ghost use Rattle.rb_drive.specs.Outcome.{HasMetAndEnded, IsDriven, IsEndAt, reported};
+ghost use Rattle.rb_drive.specs.Ending.{HasShownConflict};
 ghost use Rattle.rb_drive.specs.Owners.{beginning_of, publisher_lines, numbered_lines};
 ghost use Rattle.rb_drive.specs.Published.{AreByNumber, unsent_lines};
 ghost use Rattle.rb_drive.specs.Run.{IsOfThreads};
 ghost use Rattle.rb_drive.specs.declared.fault.DriveFault.TheVariants.{Store};
 
-use crate::accepting::{Accepting, EndedSubscriber, SubscriberEnd};
+use crate::accepting::{Accepting, EndedSubscriber};
 use crate::closing::{Closable, all_closed};
+use crate::ending::SubscriberEnd;
 use crate::fault::DriveFault;
 use crate::input::Given;
 use crate::kept::KeptSubscription;
@@ -322,8 +324,10 @@ fn why_unfinished(why: FinishRefusal) -> DriveFault
 // whether each subscriber has met the sequencer up to its cursor, and all that are drained have
 // accepted everything
 fn all_ended<L: Hall>(sequencer: &Sequencer<L>, accepting: &[EndedSubscriber<L>]) -> bool
+    requires { AllByRecursion
+        (λ one. HasShownConflict L.cells one.subscription one.ending) accepting.now }
     ensures { IsTrue result → AllByRecursion
-        (λ one. HasMetAndEnded sequencer.now one.subscription one.ending) accepting.now }
+        (λ one. HasMetAndEnded L.cells sequencer.now one.subscription one.ending) accepting.now }
 {
     for one in accepting {
         if !has_ended(sequencer, one) {
@@ -334,24 +338,26 @@ fn all_ended<L: Hall>(sequencer: &Sequencer<L>, accepting: &[EndedSubscriber<L>]
 }
 
 fn has_ended<L: Hall>(sequencer: &Sequencer<L>, one: &EndedSubscriber<L>) -> bool
+    requires { HasShownConflict L.cells one.now.subscription one.now.ending }
     ensures { IsTrue result
-        → HasMetAndEnded sequencer.now one.now.subscription one.now.ending }
+        → HasMetAndEnded L.cells sequencer.now one.now.subscription one.now.ending }
 {
     let subscription = &one.subscription;
     let cursor = subscription.cursor();
     // for its clause
     let _tables = subscription.tables();
     let (_start, last) = meet_sequencer(sequencer, subscription);
-    last == cursor && is_at_end(one.ending, sequencer.placed(), cursor)
+    last == cursor && is_at_end(one, sequencer.placed())
 }
 
-// whether a subscriber with this cursor may have ended so, where so many entries were placed
-fn is_at_end(ending: SubscriberEnd, placed: u64, cursor: u64) -> bool
-    ensures { IsTrue result → IsEndAt placed ending cursor }
+// whether a subscriber may have ended so, where so many entries were placed
+fn is_at_end<L: Hall>(one: &EndedSubscriber<L>, placed: u64) -> bool
+    requires { HasShownConflict L.cells one.now.subscription one.now.ending }
+    ensures { IsTrue result → IsEndAt L.cells placed one.now.subscription one.now.ending }
 {
-    match ending {
-        SubscriberEnd::Drained => cursor == placed,
-        SubscriberEnd::Conflict(_) => true,
+    match one.ending {
+        SubscriberEnd::Drained => one.subscription.cursor() == placed,
+        SubscriberEnd::Conflict(..) => true,
         SubscriberEnd::Stopped => false,
     }
 }

@@ -4,8 +4,13 @@ ghost use Rattle.std.specs.{Prelude.{◌≡◌, IfSome}, Coded.{codes}};
 ghost use Rattle.sqlite.specs.Held.{state};
 ghost use Rattle.cs_apply.specs.State.{state_code};
 ghost use Rattle.rb_subscriber.specs.Subscription.{SubscriptionState};
-ghost use Rattle.rb_drive.specs.{Kept.{KeepsSubscription}, Owners.{beginning_of}};
+ghost use Rattle.rb_drive.specs.{
+  Ending.{ShowsOneConflict},
+  Kept.{KeepsSubscription},
+  Owners.{beginning_of},
+};
 
+use crate::ending::Settling;
 use par_apply::Open;
 use rb_broker::{Broker, Hall, TakeError};
 use rb_desk::Delivery;
@@ -16,17 +21,6 @@ use std::alloc::Global;
 use std::marker::Model;
 use std::sync::Wait;
 use std::thread::Threads;
-
-/// How a delivery that was taken is settled.
-#[derive(Clone, Copy)]
-pub enum Settling {
-    /// It is acknowledged: the subscription has accepted it.
-    Ack,
-    /// It is given back.
-    Nack,
-    /// It is given back and opened.
-    NackOpened,
-}
 
 /// A subscription with its replica, if it has one. Until the subscription falls, the replica has
 /// its rows and its cursor.
@@ -91,7 +85,9 @@ impl<L: Hall, S: Alter> KeptSubscription<L, S> {
         broker: &Broker<L>,
         delivery: &Delivery,
     ) -> Result<u64, SubscriptionError>
-        ensures { beginning_of self.new ≡ beginning_of self.old }
+        requires workers { workers.now.n ≡ L.limits.appliers }
+        ensures begun { beginning_of self.new ≡ beginning_of self.old }
+        ensures conflict { ShowsOneConflict L.cells delivery.now result self.new }
     {
         let (subscription, replica) = (&mut self.subscription, &mut self.replica);
         accept_into(workers, alloc, broker, subscription, replica, delivery)
@@ -127,8 +123,10 @@ fn accept_into<L: Hall, S: Alter, R: Threads + Wait + Sync>(
     replica: &mut Option<Replica<S>>,
     delivery: &Delivery,
 ) -> Result<u64, SubscriptionError>
-    requires { IfSome replica.old
+    requires workers { workers.now.n ≡ L.limits.appliers }
+    requires kept { IfSome replica.old
         (λ r. KeepsSubscription (state S.Store r.conn) subscription.old) }
+    ensures conflict { ShowsOneConflict L.cells delivery.now result subscription.new }
     ensures begun { beginning_of subscription.new ≡ beginning_of subscription.old }
     ensures kept { IfSome replica.new
         (λ r. KeepsSubscription (state S.Store r.conn) subscription.new) }
@@ -148,7 +146,9 @@ fn accept_both<L: Hall, S: Alter, R: Threads + Wait + Sync>(
     replica: &mut Replica<S>,
     delivery: &Delivery,
 ) -> Result<u64, SubscriptionError>
-    requires { KeepsSubscription (state S.Store replica.old.conn) subscription.old }
+    requires workers { workers.now.n ≡ L.limits.appliers }
+    requires kept { KeepsSubscription (state S.Store replica.old.conn) subscription.old }
+    ensures conflict { ShowsOneConflict L.cells delivery.now result subscription.new }
     ensures begun { beginning_of subscription.new ≡ beginning_of subscription.old }
     ensures kept { KeepsSubscription (state S.Store replica.new.conn) subscription.new }
 {
@@ -163,7 +163,9 @@ fn accept_tables<L: Hall, R: Threads + Wait + Sync>(
     subscription: &mut Subscription<L>,
     delivery: &Delivery,
 ) -> Result<u64, SubscriptionError>
-    ensures { beginning_of subscription.new ≡ beginning_of subscription.old }
+    requires workers { workers.now.n ≡ L.limits.appliers }
+    ensures conflict { ShowsOneConflict L.cells delivery.now result subscription.new }
+    ensures begun { beginning_of subscription.new ≡ beginning_of subscription.old }
 {
     subscription.accept(workers, alloc, broker.sequence(), delivery)
 }

@@ -8,6 +8,7 @@
 mod accepting;
 mod closing;
 mod drive;
+mod ending;
 mod entries;
 mod fault;
 mod input;

@@ -28,12 +28,12 @@ pub fn place<L: Hall, R: Wait>(
                 signs.pulled.ring();
                 signs.placed.ring();
             }
-            Turn::Idle if !all_sent => {
+            Turn::Idle(_) if !all_sent => {
                 signs.sent.wait(rt, seen, looks);
                 looks = looks.saturating_add(1);
             }
             Turn::Refused(PlaceRefusal::Memory) => return Err(AllocError),
-            Turn::Idle | Turn::Refused(_) => return Ok(close(rt, broker, signs)),
+            Turn::Idle(_) | Turn::Refused(_) => return Ok(close(rt, broker, signs)),
         }
     }
     unreachable!()

@@ -167,7 +167,8 @@ fn send<L: Hall, R: Wait>(
     ensures sent { IsTrue result → publisher.new ≡ record publisher.old {
       sent = publisher.old.sent ++ item_of set (suc (length publisher.old.sent)) ∷ [];
     } }
-    ensures not { IsFalse result → publisher.new ≡ publisher.old }
+    ensures not { IsFalse result
+        → publisher.new ≡ record publisher.old { closing = publisher.new.closing } }
 {
     let mut set = set;
     let mut looks: u64 = 0;

@@ -13,8 +13,9 @@ ghost use Rattle.rb_drive.specs.Report.{counts_text, cursor_text, end_error_text
 ghost use Rattle.rb_drive.specs.Report.{faulty_text, report_text, subscriber_text};
 ghost use Rattle.rb_drive.specs.Report.{subscribers_text};
 
-use crate::accepting::{EndedSubscriber, SubscriberEnd};
+use crate::accepting::EndedSubscriber;
 use crate::drive::Outcome;
+use crate::ending::SubscriberEnd;
 use crate::publishing::FaultyLine;
 use cs_apply::Tables;
 use cs_model::{Row, RowKey, SectionFault};
@@ -142,7 +143,7 @@ fn write_subscriber<L: Hall, W: Write>(
         (subscriber_text number (subscriber_of one.now))) }
 {
     let subscription = &one.subscription;
-    let first = cursor_line(alloc, number, subscription.cursor(), one.ending)?;
+    let first = cursor_line(alloc, number, subscription.cursor(), &one.ending)?;
     write_with_tables(alloc, writer, &first, subscription.tables())
 }
 
@@ -168,9 +169,9 @@ fn cursor_line(
     alloc: Global,
     number: usize,
     cursor: u64,
-    ending: SubscriberEnd,
+    ending: &SubscriberEnd,
 ) -> Result<Vec<u8>, AllocError>
-    ensures { IfOk result (λ text. text.items ≡ cursor_text number cursor ending) }
+    ensures { IfOk result (λ text. text.items ≡ cursor_text number cursor ending.now) }
 {
     let mut text = Vec::new(alloc);
     let front = format!(in alloc; "subscriber {number} cursor {cursor} ")?;
@@ -181,12 +182,12 @@ fn cursor_line(
 }
 
 // how a subscriber ended
-fn ending_said(alloc: Global, ending: SubscriberEnd) -> Result<String, AllocError>
-    ensures { IfOk result (λ text. string_bytes text ≡ ending_text ending) }
+fn ending_said(alloc: Global, ending: &SubscriberEnd) -> Result<String, AllocError>
+    ensures { IfOk result (λ text. string_bytes text ≡ ending_text ending.now) }
 {
     match ending {
         SubscriberEnd::Drained => format!(in alloc; "drained"),
-        SubscriberEnd::Conflict(conflict) => {
+        SubscriberEnd::Conflict(conflict, _) => {
             let (position, kind) = (conflict.position, conflict.kind.code());
             format!(in alloc; "conflict {position} {kind}")
         }

@@ -9,9 +9,10 @@ ghost use Rattle.sqlite.specs.Held.{state};
 ghost use Rattle.rb_drive.specs.Run.{DriveEnds, IsOfThreads, IsStatus, ReportEnds};
 ghost use Rattle.rb_drive.specs.declared.fault.DriveFault.TheVariants.{Store, TooMany};
 
-use crate::accepting::{EndedSubscriber, SubscriberEnd};
+use crate::accepting::EndedSubscriber;
 use crate::closing::Closable;
 use crate::drive::{Plan, drive};
+use crate::ending::SubscriberEnd;
 use crate::fault::DriveFault;
 use crate::input::{Input, read_input};
 use crate::lines::by_publisher;
@@ -183,7 +184,7 @@ fn status<L: Hall>(accepting: &[EndedSubscriber<L>]) -> u8
 {
     for one in accepting {
         match one.ending {
-            SubscriberEnd::Conflict(_) => return 3,
+            SubscriberEnd::Conflict(..) => return 3,
             SubscriberEnd::Drained => {}
             SubscriberEnd::Stopped => {}
         }

@@ -1,5 +1,5 @@
 -- What a pop tells, said of what the sequencer's pass knows.
-use Rattle.std.proofs.Common.{◌≡◌, ℕ, List, [], ◌∷◌, ◌++◌, length, sym, refl, ap, ◌∙◌, subst, Option, Some}
+use Rattle.std.proofs.Common.{◌≡◌, List, [], ◌∷◌, ◌++◌, length, sym, refl, ap, ◌∙◌, subst, Option, Some}
 use Rattle.std.proofs.Common.{None, arith, ◌≤◌}
 use Rattle.std.specs.Option.{MatchOption}
 use Rattle.std.specs.List.{AllByRecursion}
@@ -7,9 +7,9 @@ use Rattle.std.proofs.lemmas.List.{append-nil}
 use Rattle.atomic_table.specs.Seated.{TableId}
 use Rattle.crossbeam_queue.specs.Fifo.{Held}
 use Rattle.rb_sequence.specs.Item.{Item}
-use Rattle.rb_sequence.specs.Items.{own_of, CountsUp}
+use Rattle.rb_sequence.specs.Items.{own_of}
 use Rattle.rb_intake.specs.declared.known.Known.{Known}
-use Rattle.rb_intake.specs.declared.known.Known.TheVariants.{Pulls, Ends}
+use Rattle.rb_intake.specs.declared.known.Known.TheVariants.{Ends}
 use Rattle.rb_intake.specs.Passes.{SequencerKnows, IsAllPulled, LastKnows, IsAllPulledAnd}
 use Rattle.rb_intake.specs.Draining.{PopsLast}
 use Rattle.rb_intake.specs.Joined.{JoinedOnce}
@@ -24,17 +24,11 @@ no_items : (items : List Item) → length items ≡ 0 → items ≡ []
 no_items [] e = refl
 no_items (x ∷ items) e = absurd (omega (arith, e))
 
-abbrev pub Popped : TableId → Known → SequencerKnows → Option Item → Type 0
-Popped queue new p result = MatchOption result ((seen_by queue new ≡ p) × IsAllPulled (seen_by queue new))
-    (λ item. seen_by queue new ≡ record { queue = p.queue; pulled = p.pulled ++ item ∷ []; ended = p.ended })
-
-pub pop_tells : (before after : TableId) (old new : Known) (result : Option Item) → after ≡ before
-    → old ≡ Pulls (pulled_in old) (ended_in old)
-    → MatchOption result
-    ((new ≡ old) × Held 0 (λ items. AllByRecursion (IsPulledOr (pulled_in old) items) (ended_in old)))
-    (λ item. (new ≡ pulled_one old item) × ((p : ℕ) → CountsUp p (pulled_in new)))
-    → Popped after new (seen_by before old) result
-pop_tells before after old new None same is told =
+-- a pop that finds none changes nothing, and what the joined publishers sent is pulled
+pub empty_tells : (before after : TableId) (old new : Known) → after ≡ before
+    → (new ≡ old) × Held 0 (λ items. AllByRecursion (IsPulledOr (pulled_in old) items) (ended_in old))
+    → (seen_by after new ≡ seen_by before old) × IsAllPulled (seen_by after new)
+empty_tells before after old new same told =
     let items = no_items told.1.0 told.1.1 in (
       (λ i. seen_by (same i) (told.0 i)),
       subst (λ u. IsAllPulled (seen_by after u)) (sym told.0) (all_weaker
@@ -42,8 +36,6 @@ pop_tells before after old new None same is told =
           (λ e h. h ∙ ap (λ xs. own_of e.0 (pulled_in old ++ xs)) items ∙ ap (own_of e.0) (append-nil (pulled_in old)))
           told.1.2),
     )
-pop_tells before after old new (Some item) same is told =
-    (λ i. seen_by (same i) ((told.0 ∙ ap (λ u. pulled_one u item) is) i))
 
 -- what the last pass of this queue shows
 abbrev pub last_seen_by : TableId → Known → LastKnows

@@ -1,7 +1,7 @@
 //! `Intake`: the queue between publishers and the sequencer.
 
 ghost use Rattle.std.specs.Prelude.{◌≡◌, ◌<◌, ◌++◌, ◌∷◌, [], ℕ, suc, length, IfOk, IfErr, OnOk};
-ghost use Rattle.std.specs.Prelude.{OnErr, MatchOption};
+ghost use Rattle.std.specs.Prelude.{OnErr, MatchResult};
 ghost use Rattle.rb_sequence.specs.Items.{CountsUp};
 ghost use Rattle.std.specs.Prelude.{◌+◌, ◌≤◌, vec_len, vec_capacity};
 ghost use Rattle.rb_intake.specs.Passes.{IsAllPulled, total_sent, Drains};
@@ -10,6 +10,7 @@ ghost use Rattle.rb_intake.specs.Draining.{PopsLast};
 
 use crate::passes::{LastPass, MakerPass, PublisherPass, SequencerPass};
 use crate::rule::{Make, Pop, PopLast, Push, Queue, TakeIn};
+use crate::waiting::NothingWaits;
 use rb_sequence::Item;
 use std::alloc::{AllocError, Global};
 use std::marker::Model;
@@ -102,15 +103,20 @@ impl Intake {
     /// Pulls the item that waits first. Each publisher's own numbers count from 1 in what was
     /// pulled.
     ///
-    /// Returns `None` if the intake was empty at one moment of the call. What the publishers sent
-    /// whose passes were joined is all pulled then.
-    pub fn pop<R: Wait>(&self, rt: &R, pass: &mut SequencerPass) -> Option<Item>
+    /// Returns `NothingWaits` if the intake was empty at one moment of the call. What the
+    /// publishers sent whose passes were joined is all pulled then.
+    pub fn pop<R: Wait>(&self, rt: &R, pass: &mut SequencerPass) -> Result<Item, NothingWaits>
         requires queue { pass.old.queue ≡ self.now.queue }
-        ensures item { MatchOption result ((pass.new ≡ pass.old) × IsAllPulled pass.new)
-            (λ item. pass.new ≡ record pass.old { pulled = pass.old.pulled ++ item ∷ [] }) }
+        ensures item { MatchResult result
+            (λ item. pass.new ≡ record pass.old { pulled = pass.old.pulled ++ item ∷ [] })
+            (λ nothing. (pass.new ≡ pass.old) × IsAllPulled pass.new
+            × (nothing.seen ≡ pass.new)) }
         ensures numbered { (p : ℕ) → CountsUp p pass.new.pulled }
     {
-        self.queue.pop_as::<Pop, R>(rt, &mut pass.seat)
+        match self.queue.pop_as::<Pop, R>(rt, &mut pass.seat) {
+            Some(item) => Ok(item),
+            None => Err(NothingWaits::seen_by(pass)),
+        }
     }
 
     /// Takes in the pass of a publisher that sends nothing more.

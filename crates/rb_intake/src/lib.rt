@@ -7,7 +7,9 @@ mod intake;
 mod known;
 mod passes;
 mod rule;
+mod waiting;
 
 pub use intake::Intake;
 pub use known::Known;
 pub use passes::{LastPass, MakerPass, PublisherPass, SequencerPass};
+pub use waiting::NothingWaits;

@@ -47,6 +47,11 @@ pub record IsTokenOf (s : Cells) (t : CellToken) : Type 0 where
   pub numbered : t.entry.number ≡ t.number
   pub segment : IsSegmentOf s t.number t.segment
 
+-- the token is of a cell of this sequence; its entry may have any number
+pub record IsOccupantOf (s : Cells) (t : CellToken) : Type 0 where
+  pub has : HasCell s t.number
+  pub segment : IsSegmentOf s t.number t.segment
+
 -- two tokens of one number, whose segments are one
 abbrev pub AreOfOneCell : CellToken → CellToken → Type 0
 AreOfOneCell t u = (t.number ≡ u.number) × (t.segment ≡ u.segment)

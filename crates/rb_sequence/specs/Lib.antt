@@ -3,3 +3,4 @@ pub mod Item
 pub mod Entry
 pub mod Items
 pub mod Cells
+pub mod Filling

@@ -1,14 +1,16 @@
 //! The cells of a sequence, which its two halves share.
 
 ghost use Rattle.std.specs.Prelude.{◌≡◌, ◌≤◌, ◌<◌, IfErr, IfOk, IfSome, length};
-ghost use Rattle.rb_sequence.specs.Cells.{HandsBack, HasCell, IsLastToken, IsReadyFor, IsTokenOf};
+ghost use Rattle.rb_sequence.specs.Cells.{HandsBack, HasCell, IsLastToken, IsOccupantOf};
+ghost use Rattle.rb_sequence.specs.Cells.{IsReadyFor, IsTokenOf};
+ghost use Rattle.rb_sequence.specs.Filling.{FindsSet};
 ghost use Rattle.rb_sequence.specs.Segments.{IsLocated, id_at};
 ghost use Rattle.once_cell.specs.Once.{cell_name};
 
 use crate::entry::Entry;
-use crate::ready::Ready;
+use crate::ready::{AlreadySet, Ready};
 use crate::segment::{SEGMENT, Segment, empty_cells, locate};
-use crate::told::{Told, ToldLast};
+use crate::told::{Occupant, Told, ToldLast};
 use crate::written::Written;
 use once_cell::race::OnceBox;
 use std::alloc::{AllocError, AllocFailed, Global};
@@ -110,9 +112,11 @@ impl Cells {
             return None;
         }
         Some(Told {
-            number,
-            segment: laid,
-            cell: written,
+            occupant: Occupant {
+                number,
+                segment: laid,
+                cell: written,
+            },
         })
     }
 
@@ -121,11 +125,19 @@ impl Cells {
         requires { IsTokenOf self.now told.now }
         ensures { result.now ≡ told.now.entry }
     {
+        self.get_occupant(&told.occupant)
+    }
+
+    /// The entry that a cell holds, by its token.
+    pub(crate) fn get_occupant<'a>(&'a self, occupant: &Occupant) -> &'a Entry
+        requires { IsOccupantOf self.now occupant.now }
+        ensures { result.now ≡ occupant.now.entry }
+    {
         // for its invariant: there is a segment for each number
         let _segments = &self.segments;
-        let (segment, place) = locate(told.number);
-        let cells = told.segment.value(self.slot(segment));
-        told.cell.value(cells.cell(place))
+        let (segment, place) = locate(occupant.number);
+        let cells = occupant.segment.value(self.slot(segment));
+        occupant.cell.value(cells.cell(place))
     }
 
     /// A token of the closing cell, if it is set.
@@ -175,11 +187,12 @@ impl Cells {
         }
     }
 
-    /// Sets the cell of an entry that is ready for it. Hands the entry back if the cell is set.
-    pub(crate) fn fill(&self, ready: Ready) -> Result<Told, Entry>
+    /// Sets the cell of an entry that is ready for it. If the cell is set, hands the entry back,
+    /// with a token of the cell.
+    pub(crate) fn fill(&self, ready: Ready) -> Result<Told, AlreadySet>
         requires { IsReadyFor self.now ready }
         ensures ok { IfOk result (λ told. IsTokenOf self.now told × (told.entry ≡ ready.entry)) }
-        ensures err { IfErr result (λ entry. entry ≡ ready.entry) }
+        ensures err { IfErr result (FindsSet self.now ready.entry) }
     {
         // for its invariant: there is a segment for each number
         let _segments = &self.segments;
@@ -192,11 +205,20 @@ impl Cells {
         let cells = laid.value(self.slot(segment));
         match Written::set(cells.cell(place), entry) {
             Ok(cell) => Ok(Told {
-                number,
-                segment: laid,
-                cell,
+                occupant: Occupant {
+                    number,
+                    segment: laid,
+                    cell,
+                },
             }),
-            Err(entry) => Err(Box::into_inner(entry)),
+            Err((entry, cell)) => Err(AlreadySet {
+                entry: Box::into_inner(entry),
+                occupant: Occupant {
+                    number,
+                    segment: laid,
+                    cell,
+                },
+            }),
         }
     }
 
@@ -211,7 +233,7 @@ impl Cells {
                 last: number,
                 written,
             }),
-            Err(back) => Err(back),
+            Err((back, _)) => Err(back),
         }
     }
 }

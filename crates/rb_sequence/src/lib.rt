@@ -11,14 +11,16 @@ pub mod laws;
 mod ready;
 mod segment;
 mod sequence;
+mod sight;
 mod told;
 mod written;
 
 pub use entry::Entry;
 pub use form::FormBeside;
 pub use item::Item;
-pub use ready::Ready;
+pub use ready::{AlreadySet, Ready};
 pub use segment::Segment;
 pub use sequence::{Filler, Preparer, Sequence};
-pub use told::{Told, ToldLast};
+pub use sight::Sight;
+pub use told::{Occupant, Told, ToldLast};
 pub use written::Written;

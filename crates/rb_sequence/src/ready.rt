@@ -1,9 +1,11 @@
-//! `Ready`: an entry with all the memory that its cell needs.
+//! `Ready`: an entry with all the memory that its cell needs; `AlreadySet`: what comes back of a
+//! cell that is set.
 
 ghost use Rattle.std.specs.Prelude.{◌≡◌};
 
 use crate::entry::Entry;
 use crate::segment::Segment;
+use crate::told::Occupant;
 use crate::written::Written;
 use std::marker::Model;
 
@@ -42,4 +44,13 @@ impl Ready {
         let Ready { entry, .. } = self;
         Box::into_inner(entry)
     }
+}
+
+/// What `Filler::fill` hands back of a cell that is set.
+#[derive(Debug, Drop)]
+pub struct AlreadySet {
+    /// The entry that was to stand there.
+    pub entry: Entry,
+    /// Shows which entry the cell holds.
+    pub occupant: Occupant,
 }

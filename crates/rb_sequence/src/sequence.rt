@@ -2,12 +2,14 @@
 //! what an entry needs, and `Filler` sets cells.
 
 ghost use Rattle.std.specs.Prelude.{◌≡◌, ◌≤◌, IfErr, IfOk, IfSome};
-ghost use Rattle.rb_sequence.specs.Cells.{HandsBack, HasCell, IsLastToken, IsReadyFor, IsTokenOf};
+ghost use Rattle.rb_sequence.specs.Cells.{HandsBack, HasCell, IsLastToken, IsOccupantOf};
+ghost use Rattle.rb_sequence.specs.Cells.{IsReadyFor, IsTokenOf};
+ghost use Rattle.rb_sequence.specs.Filling.{FindsSet};
 
 use crate::cells::Cells;
 use crate::entry::Entry;
-use crate::ready::Ready;
-use crate::told::{Told, ToldLast};
+use crate::ready::{AlreadySet, Ready};
+use crate::told::{Occupant, Told, ToldLast};
 use std::alloc::{AllocError, AllocFailed, Global};
 use std::marker::Model;
 use std::sync::Arc;
@@ -116,6 +118,14 @@ impl Sequence {
         self.cells.get_told(told)
     }
 
+    /// The entry that a cell holds, by its token.
+    pub fn get_occupant<'a>(&'a self, occupant: &Occupant) -> &'a Entry
+        requires { IsOccupantOf self.now occupant.now }
+        ensures { result.now ≡ occupant.now.entry }
+    {
+        self.cells.get_occupant(occupant)
+    }
+
     /// A token of the closing cell, if it is set.
     pub fn closing(&self) -> Option<ToldLast>
         ensures { IfSome result (λ told. IsLastToken self.now told) }
@@ -130,6 +140,8 @@ impl Preparer {
     /// first one's stays, and both use it.
     ///
     /// Hands the entry back if memory runs out.
+    // a function of its own in programs, so that refused/calls.txt can name it
+    #[inline(never)]
     pub fn ready(&self, alloc: Global, entry: Entry) -> Result<Ready, AllocFailed<Entry>>
         requires { HasCell self.now entry.number }
         ensures ok { IfOk result (λ ready. IsReadyFor self.now ready × (ready.entry ≡ entry)) }
@@ -143,11 +155,11 @@ impl Filler {
     /// Sets the cell of an entry that is ready for it. The token shows that the cell holds the
     /// entry. Does not allocate or wait.
     ///
-    /// Hands the entry back if the cell is set.
-    pub fn fill(&mut self, ready: Ready) -> Result<Told, Entry>
+    /// If the cell is set, hands the entry back, with a token of the cell.
+    pub fn fill(&mut self, ready: Ready) -> Result<Told, AlreadySet>
         requires { IsReadyFor self.old ready }
         ensures ok { IfOk result (λ told. IsTokenOf self.old told × (told.entry ≡ ready.entry)) }
-        ensures err { IfErr result (λ entry. entry ≡ ready.entry) }
+        ensures err { IfErr result (FindsSet self.old ready.entry) }
         ensures same { self.new ≡ self.old }
     {
         self.cells.fill(ready)

@@ -9,16 +9,16 @@ use crate::written::Written;
 use std::fmt;
 use std::marker::Model;
 
-/// Shows that a cell holds an entry. Any thread may keep it, and it never becomes wrong. It takes
-/// the eight bytes of its number.
+/// Shows that a cell is set, and which entry it holds. Any thread may keep it, and it never becomes
+/// wrong. It takes the eight bytes of the cell's number; the entry's own may be another.
 #[derive(Drop)]
-pub struct Told {
+pub struct Occupant {
     pub(crate) number: u64,
     pub(crate) segment: Written<Segment>,
     pub(crate) cell: Written<Entry>,
 }
 
-impl Model for Told {
+impl Model for Occupant {
     ghost use Rattle.std.specs.Prelude.{◌≡◌, ◌≤◌, ℕ};
     ghost use Rattle.rb_sequence.specs.Cells.{CellToken};
     ghost use Rattle.rb_sequence.specs.Segments.{IsLocated, id_at};
@@ -32,8 +32,56 @@ impl Model for Told {
       cell = t.cell.cell;
     } };
 
-    ghost invariant = { λ t. (1 ≤ t.number) × (t.cell.value.number ≡ t.number)
+    ghost invariant = { λ t. (1 ≤ t.number)
         × ((k j : ℕ) → IsLocated t.number k j → t.cell.cell ≡ id_at t.segment.value j) };
+}
+
+impl Occupant {
+    /// The number of the cell, from 1.
+    pub fn number(&self) -> u64
+        ensures { result ≡ self.now.number }
+    {
+        self.number
+    }
+
+    /// The same token once more.
+    pub fn again(&self) -> Occupant
+        ensures { result ≡ self.now }
+    {
+        Occupant {
+            number: self.number,
+            segment: self.segment.again(),
+            cell: self.cell.again(),
+        }
+    }
+
+    /// Two tokens of one cell show one entry. Does nothing else.
+    pub fn same(&self, other: &Occupant)
+        requires { AreOfOneCell self.now other.now }
+        ensures { self.now.entry ≡ other.now.entry }
+    {
+        let _place = locate(self.number);
+        self.segment.agrees(&other.segment);
+        self.cell.agrees(&other.cell);
+    }
+}
+
+/// Shows that a cell holds the entry of its number. Any thread may keep it, and it never becomes
+/// wrong. It takes the eight bytes of its number.
+#[derive(Drop)]
+pub struct Told {
+    pub(crate) occupant: Occupant,
+}
+
+impl Model for Told {
+    ghost use Rattle.std.specs.Prelude.{◌≡◌};
+    ghost use Rattle.rb_sequence.specs.Cells.{CellToken};
+
+    ghost Value = { CellToken };
+
+    ghost view = { λ t. t.occupant };
+
+    ghost invariant = { λ t. t.occupant.entry.number ≡ t.occupant.number };
 }
 
 impl Told {
@@ -42,7 +90,7 @@ impl Told {
         ensures number { result ≡ self.now.number }
         ensures entry { self.now.entry.number ≡ self.now.number }
     {
-        self.number
+        self.occupant.number()
     }
 
     /// The same token once more.
@@ -50,9 +98,7 @@ impl Told {
         ensures { result ≡ self.now }
     {
         Told {
-            number: self.number,
-            segment: self.segment.again(),
-            cell: self.cell.again(),
+            occupant: self.occupant.again(),
         }
     }
 
@@ -61,9 +107,7 @@ impl Told {
         requires { AreOfOneCell self.now other.now }
         ensures { self.now.entry ≡ other.now.entry }
     {
-        let _place = locate(self.number);
-        self.segment.agrees(&other.segment);
-        self.cell.agrees(&other.cell);
+        self.occupant.same(&other.occupant);
     }
 }
 
@@ -109,6 +153,22 @@ impl ToldLast {
         ensures { self.now.last ≡ other.now.last }
     {
         self.written.agrees(&other.written);
+    }
+}
+
+impl fmt::Debug for Occupant {
+    fn fmt<W: fmt::Write>(&self, f: &mut fmt::Formatter<W>) -> fmt::Result {
+        f.debug_struct("Occupant")
+            .field("number", &self.number)
+            .finish_non_exhaustive()
+    }
+}
+
+impl fmt::Debug for Told {
+    fn fmt<W: fmt::Write>(&self, f: &mut fmt::Formatter<W>) -> fmt::Result {
+        f.debug_struct("Told")
+            .field("number", &self.number())
+            .finish_non_exhaustive()
     }
 }
 

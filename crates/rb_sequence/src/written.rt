@@ -87,15 +87,18 @@ impl<T> Written<T> {
 }
 
 impl<T: Drop> Written<T> {
-    /// Sets a cell. Hands the value back if the cell is set.
-    pub(crate) fn set(cell: &OnceBox<T>, value: Box<T>) -> Result<Written<T>, Box<T>>
+    /// Sets a cell. If it is set, hands the value back, with a token of the cell.
+    pub(crate) fn set(cell: &OnceBox<T>, value: Box<T>) -> Result<Written<T>, (Box<T>, Written<T>)>
         ensures ok { IfOk result (λ written. (written.cell ≡ cell_name cell.now)
             × (written.value ≡ value.value)) }
-        ensures err { IfErr result (λ back. back.value ≡ value.value) }
+        ensures err { IfErr result (λ back. (back.0.value ≡ value.value)
+            × (back.1.cell ≡ cell_name cell.now)) }
     {
         let mut note = cell.note();
-        cell.set_as(value, &mut note)?;
-        Ok(Written::of(&mut note))
+        match cell.set_as(value, &mut note) {
+            Ok(()) => Ok(Written::of(&mut note)),
+            Err(value) => Err((value, Written::of(&mut note))),
+        }
     }
 
     /// Sets a cell, unless it is set. A token of the cell, whichever value it holds then.

@@ -1,10 +1,11 @@
 -- The sequencer's state, and what a turn does to it.
 use Rattle.std.specs.Prelude.{◌≡◌, ℕ, zero, suc, List, [], ◌∷◌, ◌++◌, length, map, Option, Some}
-use Rattle.std.specs.Prelude.{None}
-use Rattle.std.specs.Prelude.{slice_get, ◌⊎◌}
+use Rattle.std.specs.Prelude.{IsSome, None, Result, Ok, Err, slice_get}
+use Rattle.atomic_table.specs.Seated.{TableId}
 use Rattle.rb_desk.specs.Limits.{Limits}
 use Rattle.rb_sequence.specs.Cells.{Cells, CellToken, IsTokenOf}
 use Rattle.rb_sequence.specs.Item.{Item}
+use Rattle.rb_intake.specs.declared.waiting.NothingWaits.{NothingWaits}
 use Rattle.rb_broker.specs.Placing.{DeskPlaces, DeskRefuses, ShowsWhy}
 use Rattle.rb_sequencer.specs.declared.turn.Turn.{Turn}
 use Rattle.rb_sequencer.specs.declared.turn.Turn.TheVariants.{Placed, Idle, Refused}
@@ -34,25 +35,34 @@ TakesUp (Some x) old new = new ≡ old
 TakesUp None old new = (x : Item)
     × (new ≡ record old { pulled = old.pulled ++ x ∷ []; hand = Some x })
 
+-- Shows that nothing waited in this queue at a moment, when the sequencer had pulled these items.
+abbrev pub IsEmptyAfter : TableId → List Item → NothingWaits → Type 0
+IsEmptyAfter queue pulled nothing = (nothing.seen.queue ≡ queue) × (nothing.seen.pulled ≡ pulled)
+
 -- What a turn does. The item in hand, which it may have taken up, becomes an entry, whose number is
--- one more than that of the entry before, and the desk places that number; or nothing waits; or the
--- item stays in hand. Then the desk refuses so, and where the sequence is closed, the refusal shows
--- its last number.
-abbrev pub IsTurn : Limits → Cells → SequencerState → SequencerState → Turn → Type 0
-IsTurn limits cells old new (Placed told) = (mid : SequencerState) × TakesUp old.hand old mid
+-- one more than that of the entry before, and the desk places that number; or the hand is empty,
+-- and nothing waits after what was pulled; or the item stays in hand. Then the desk refuses to
+-- place that number so, and the refusal shows what stands in its way (*ShowsWhy*).
+abbrev pub IsTurn : Limits → Cells → TableId → SequencerState → SequencerState → Turn → Type 0
+IsTurn limits cells queue old new (Placed told) = (mid : SequencerState) × TakesUp old.hand old mid
     × (mid.hand ≡ Some told.entry.item) × IsTokenOf cells told
     × (told.number ≡ suc (length old.placed)) × (told.entry.number ≡ told.number)
     × (new ≡ record mid { placed = old.placed ++ told ∷ []; hand = None })
     × DeskPlaces limits told.number
-IsTurn limits cells old new Idle = (old.hand ≡ None) × (new ≡ old)
-IsTurn limits cells old new (Refused why) = TakesUp old.hand old new × ShowsWhy cells why
-    × DeskRefuses limits cells why
+IsTurn limits cells queue old new (Idle nothing) = (old.hand ≡ None) × (new ≡ old)
+    × IsEmptyAfter queue old.pulled nothing
+IsTurn limits cells queue old new (Refused why) = TakesUp old.hand old new
+    × ShowsWhy cells (suc (length old.placed)) why
+    × DeskRefuses limits cells (suc (length old.placed)) why
 
 -- ---- the two halves of a turn
 
 -- an empty hand takes up the next item, or stays empty because nothing waits
-abbrev pub FillsHand : SequencerState → SequencerState → Type 0
-FillsHand old new = TakesUp old.hand old new ⊎ ((old.hand ≡ None) × (new ≡ old))
+abbrev pub FillsHand : TableId → SequencerState → SequencerState → Result (Unit {0}) NothingWaits
+    → Type 0
+FillsHand queue old new (Ok done) = TakesUp old.hand old new × IsSome new.hand
+FillsHand queue old new (Err nothing) = (old.hand ≡ None) × (new ≡ old)
+    × IsEmptyAfter queue old.pulled nothing
 
 -- the item in hand becomes the next entry, or stays
 abbrev pub PlacesHand : Limits → Cells → SequencerState → SequencerState → Turn → Type 0
@@ -61,6 +71,7 @@ PlacesHand limits cells old new (Placed told) = (old.hand ≡ Some told.entry.it
     × (told.entry.number ≡ told.number)
     × (new ≡ record old { placed = old.placed ++ told ∷ []; hand = None })
     × DeskPlaces limits told.number
-PlacesHand limits cells old new Idle = ⊥
-PlacesHand limits cells old new (Refused why) = (new ≡ old) × ShowsWhy cells why
-    × DeskRefuses limits cells why
+PlacesHand limits cells old new (Idle nothing) = ⊥
+PlacesHand limits cells old new (Refused why) = (new ≡ old)
+    × ShowsWhy cells (suc (length old.placed)) why
+    × DeskRefuses limits cells (suc (length old.placed)) why

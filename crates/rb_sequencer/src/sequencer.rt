@@ -9,7 +9,7 @@ ghost use Rattle.rb_sequencer.specs.Turns.{items_placed, token_of};
 
 use crate::turn::Turn;
 use rb_broker::{Broker, Hall, PlaceRefusal, RefusedItem};
-use rb_intake::SequencerPass;
+use rb_intake::{NothingWaits, SequencerPass};
 use rb_sequence::{Item, Told};
 use std::alloc::Global;
 use std::marker::{Model, PhantomData};
@@ -90,13 +90,12 @@ impl<L: Hall> Sequencer<L> {
     /// Returns `Idle` if nothing waits. `Refused` leaves the item in hand: the journal is full, the
     /// sequence is closed or full, its cell is set, or memory ran out.
     pub fn turn<R: Wait>(&mut self, rt: &R, alloc: Global, broker: &Broker<L>) -> Turn
-        ensures { IsTurn L.limits L.cells self.old self.new result }
+        ensures { IsTurn L.limits L.cells L.queue self.old self.new result }
     {
-        self.take_up(rt, broker);
-        if self.hand.is_none() {
-            return Turn::Idle;
+        match self.take_up(rt, broker) {
+            Ok(()) => self.place(rt, alloc, broker),
+            Err(nothing) => Turn::Idle(nothing),
         }
-        self.place(rt, alloc, broker)
     }
 
     /// Its pass, the item in hand and the tokens of what it placed, for the end of the broker. What
@@ -111,12 +110,13 @@ impl<L: Hall> Sequencer<L> {
     }
 
     // fills an empty hand from the intake
-    fn take_up<R: Wait>(&mut self, rt: &R, broker: &Broker<L>)
-        ensures { FillsHand self.old self.new }
+    fn take_up<R: Wait>(&mut self, rt: &R, broker: &Broker<L>) -> Result<(), NothingWaits>
+        ensures { FillsHand L.queue self.old self.new result }
     {
         if self.hand.is_none() {
-            self.hand = broker.pull(rt, &mut self.pass);
+            self.hand = Some(broker.pull(rt, &mut self.pass)?);
         }
+        Ok(())
     }
 
     // places the item in hand

@@ -2,3 +2,5 @@
 pub mod accepting
 -- What is accepted is one contiguous run; where the group conflicts, so do the single bodies.
 pub mod runs
+-- What a value of no bytes is at run time.
+pub mod NoBytes

@@ -88,14 +88,16 @@ IfStoreUnasked other P = Unit {0}
 
 -- What is pending over a subscription with this cursor, base, tokens and tables: the entries after
 -- the cursor, one at least, as the cells show them, and changes of rows that fit, each of another
--- key. If all changesets apply one after another without conflict, the changes leave what that
--- gives.
+-- key. The changes leave what the group of the entries leaves. If all changesets apply one after
+-- another without conflict, they leave what that gives.
 pub record IsPendingOver (cells : Cells) (cursor : ℕ) (base : TableState) (told : List CellToken)
     (tables : TableState) (pending : PendingAccept) : Type 0 where
   pub shown : AreInCells cells (suc cursor) pending.tokens
   pub some : 1 ≤ length pending.tokens
   pub fit : RowsFit tables pending.changes
   pub distinct : IsDistinct same_key (keys_of pending.changes)
+  pub grouped : single tables (group_of (joined_bodies (entries_told pending.tokens)))
+      ≡ Ok (changed_tables tables pending.changes)
   pub singly : HasSingleTables base (entries_told (told ++ pending.tokens))
       (changed_tables tables pending.changes)
 

@@ -7,3 +7,4 @@ pub mod AcceptShown
 pub mod Register
 pub mod Lost
 pub mod Durable
+pub mod Batches

@@ -1,6 +1,6 @@
 -- A subscription that fell, and the two states that its durable store may have.
-use Rattle.std.specs.Prelude.{◌≡◌, ◌⊎◌, ℕ, ◌+◌, ◌-◌, ◌++◌, List, [], Option, Some, None, length}
-use Rattle.std.specs.Prelude.{take}
+use Rattle.std.specs.Prelude.{◌≡◌, ◌⊎◌, ℕ, ◌+◌, ◌-◌, ◌++◌, ◌==◌, List, [], ◌∷◌, Option, Some, None}
+use Rattle.std.specs.Prelude.{if◌then◌else◌, not, length, take}
 use Rattle.cs_apply.specs.State.{TableState}
 use Rattle.par_apply.specs.Durable.{changed_tables}
 use Rattle.par_apply.specs.RowChanges.{RowChanges}
@@ -30,11 +30,14 @@ FitsLost s tables cursor = ((cursor ≡ cursor_of s) × (tables ≡ s.tables))
     ⊎ ((cursor ≡ cursor_after s) × (tables ≡ tables_after s))
 
 -- The subscription that goes on with these tables after this cursor, under this link: it has the
--- tokens up to the cursor, and nothing is pending.
+-- tokens up to the cursor, what was pending as one batch if that is before the cursor, and nothing
+-- is pending.
 abbrev pub gone_on : SubscriptionState → TableState → ℕ → ℕ → SubscriptionState
 gone_on s tables cursor link = record s {
   link = link;
   tables = tables;
   told = take (cursor - s.start) (s.told ++ pending_tokens s.pending);
+  batches = if not (cursor == cursor_of s) then s.batches ++ pending_tokens s.pending ∷ []
+      else s.batches;
   pending = None;
 }

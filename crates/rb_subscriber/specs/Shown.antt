@@ -3,6 +3,8 @@ use Rattle.std.specs.Prelude.{◌≡◌, ℕ, suc, List, length, ◌+◌, ◌-�
 use Rattle.rb_desk.specs.declared.delivery.Delivery.{Delivery}
 use Rattle.rb_sequence.specs.Cells.{AreInCells, Cells, CellToken, IsTokenOf}
 use Rattle.rb_sequence.specs.Entry.{Entry}
+use Rattle.rb_subscriber.specs.declared.shown.Shown.{Shown}
+use Rattle.rb_subscriber.specs.declared.shown.Shown.TheVariants.{Held, Seen}
 
 abbrev pub entries_told : List CellToken → List Entry
 entries_told tokens = map (λ token. token.entry) tokens
@@ -17,8 +19,13 @@ abbrev pub ShowDelivery : Cells → Delivery → List CellToken → Type 0
 ShowDelivery cells delivery shown = AreInCells cells delivery.first shown
     × (length shown ≡ suc delivery.last - delivery.first)
 
--- the cells show the entries of a delivery up to this number, which is one of its own, and not
--- further
-abbrev pub ShowBefore : Cells → Delivery → ℕ → Type 0
-ShowBefore cells delivery number = (shown : List CellToken) × AreInCells cells delivery.first shown
+-- These are tokens of the first numbers of a delivery, up to the one before this number, which is
+-- its own, too.
+abbrev pub ShowBefore : Cells → Delivery → ℕ → List CellToken → Type 0
+ShowBefore cells delivery number shown = AreInCells cells delivery.first shown
     × (delivery.first + length shown ≡ number) × (number ≤ delivery.last)
+
+-- the tokens of what the cells showed, whether there was memory for them or not
+abbrev pub tokens_shown : Shown → List CellToken
+tokens_shown (Held told) = told.items
+tokens_shown (Seen sight) = sight.tokens

@@ -1,11 +1,13 @@
 -- A subscription as a value.
-use Rattle.std.specs.Prelude.{ℕ, ◌+◌, ◌-◌, suc, Bool, List, [], false, length}
+use Rattle.std.specs.Prelude.{ℕ, ◌+◌, ◌-◌, suc, Bool, List, [], false, length, map}
 use Rattle.std.specs.Prelude.{Option, None, slice_get, if◌then◌else◌, nat_lt}
 use Rattle.std.specs.Option.{is_some}
 use Rattle.cs_apply.specs.State as tables
 use Rattle.par_apply.specs.RowChanges.{RowChanges}
 use Rattle.rb_sequence.specs.Cells.{CellToken}
+use Rattle.rb_sequence.specs.Entry.{Entry}
 use Rattle.rb_subscriber.specs.Endpoint.{Endpoint}
+use Rattle.rb_subscriber.specs.Shown.{entries_told}
 
 -- What a durable store may have beyond a subscription that fell: the entries of the delivery that
 -- it was accepting, by their tokens, and the changes of rows that they make.
@@ -14,8 +16,9 @@ pub record PendingAccept : Type 0 where
   pub changes : RowChanges
 
 -- A subscription: its number at the desk, the number after which it began, its link, whether it is
--- closed, the tables that it began with, its tables, the tokens of what it accepted, in order, what
--- is pending if it has fallen, and how many of its steps were counted.
+-- closed, the tables that it began with, its tables, the tokens of what it accepted, in order, the
+-- same tokens by accepted deliveries, what is pending if it has fallen, and how many of its steps
+-- were counted.
 pub record SubscriptionState : Type 0 where
   pub sub : ℕ
   pub start : ℕ
@@ -24,8 +27,13 @@ pub record SubscriptionState : Type 0 where
   pub base : tables.TableState
   pub tables : tables.TableState
   pub told : List CellToken
+  pub batches : List (List CellToken)
   pub pending : Option PendingAccept
   pub steps : ℕ
+
+-- the entries of accepted deliveries, each delivery's together
+abbrev pub batches_told : List (List CellToken) → List (List Entry)
+batches_told batches = map entries_told batches
 
 -- the last number that it accepted; at first, its start
 abbrev pub cursor_of : SubscriptionState → ℕ
@@ -52,6 +60,7 @@ new_subscription sub start link tables = record {
   base = tables;
   tables = tables;
   told = [];
+  batches = [];
   pending = None;
   steps = 0;
 }

@@ -7,10 +7,11 @@ ghost use Rattle.rb_subscriber.specs.Durable.{DurableAnswers, IfFell};
 ghost use Rattle.rb_subscriber.specs.Subscription.{cursor_of};
 
 use crate::applier::Workers;
+use crate::batches::Batch;
 use crate::keeping::KeepError;
 use crate::pending::Pending;
 use crate::refusal::{AcceptRefusal, SubscriptionError};
-use crate::shown::{Shown, add, tokens_of};
+use crate::shown::{Shown, ShownEntries, add, tokens_of};
 use crate::step_ledger::StepLedger;
 use crate::subscription::Subscription;
 use par_apply::{DurableRows, Gate};
@@ -26,9 +27,9 @@ impl<L: StepLedger> Subscription<L> {
     /// those after it.
     ///
     /// Refuses as `accept` does, and last of all `Store` if the store fails. The subscription has
-    /// fallen then: it answers `Store` to every delivery. Give it up by `fall`, open the store
-    /// again, and hand what it has to the broker's `resume`. Any other error changes neither the
-    /// subscription nor the store.
+    /// fallen then, and keeps the tokens: it answers `Store` to every delivery. Give it up by
+    /// `fall`, open the store again, and hand what it has to the broker's `resume`. Any other error
+    /// changes neither the subscription nor the store.
     pub fn accept_durable<R: Threads + Sync, G: Gate, S: DurableRows>(
         &mut self,
         workers: &Workers<R, G>,
@@ -41,13 +42,15 @@ impl<L: StepLedger> Subscription<L> {
         requires kept { self.old.pending ≡ None
             → S.keeps store.old self.old.tables.rows (cursor_of self.old) }
         ensures answers { DurableAnswers L.cells delivery.now result self.old self.new }
-        ensures conflicts { ConflictsShown L.cells delivery.now self.old.tables result }
+        ensures conflicts { ConflictsShown self.old.tables result }
         ensures kept { OnOk result (S.keeps store.new self.new.tables.rows (cursor_of self.new)) }
         ensures leaves { IfFell self.old.pending self.new.pending (λ pending.
             S.leaves store.new self.old.tables.rows (cursor_of self.old)
             (overlaid self.old.tables.rows pending.changes)
             (cursor_of self.old + length pending.tokens)) }
-        ensures failed { IfFell self.old.pending self.new.pending (λ _. S.failed store.new) }
+        ensures failed { IfFell self.old.pending self.new.pending (λ pending. (why : S.Error)
+            × S.failed store.old pending.changes (cursor_of self.old + length pending.tokens)
+            store.new why) }
         ensures unasked { OnErr result (self.new.pending ≡ self.old.pending
             → store.new ≡ store.old) }
     {
@@ -56,7 +59,7 @@ impl<L: StepLedger> Subscription<L> {
         }
         let schema = self.end.tables().schema();
         let shown = tokens_of(alloc, sequence, &mut self.told, schema, delivery)?;
-        let entries = Shown {
+        let entries = ShownEntries {
             sequence,
             told: &shown,
         };
@@ -65,11 +68,19 @@ impl<L: StepLedger> Subscription<L> {
             .accept_kept(workers, alloc, &entries, store, delivery)
         {
             Ok(cursor) => {
-                add(&mut self.told, shown);
+                let batch = Batch { told: shown };
+                self.batches = self.batches.with(&batch);
+                add(&mut self.told, batch.told);
                 Ok(cursor)
             }
-            Err(KeepError::Refused(why)) => Err(SubscriptionError::Refused(why)),
-            Err(KeepError::Memory) => Err(SubscriptionError::Memory),
+            Err(KeepError::Refused(why)) => {
+                let shown = Shown::Held(shown);
+                Err(SubscriptionError::RefusedEntries { why, shown })
+            }
+            Err(KeepError::Memory) => {
+                let shown = Shown::Held(shown);
+                Err(SubscriptionError::Memory { shown })
+            }
             Err(KeepError::Store(plan)) => {
                 self.pending = Some(Pending { told: shown, plan });
                 Err(SubscriptionError::Refused(AcceptRefusal::Store))

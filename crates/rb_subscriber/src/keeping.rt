@@ -94,7 +94,8 @@ impl Endpoint {
         ensures leaves { IfStoreFailed result (λ plan.
             S.leaves store.new self.old.tables.rows self.old.cursor
             (overlaid self.old.tables.rows (planned_changes plan)) delivery.now.last) }
-        ensures failed { IfStoreFailed result (λ _. S.failed store.new) }
+        ensures failed { IfStoreFailed result (λ plan. (why : S.Error) × S.failed store.old
+            (planned_changes plan) delivery.now.last store.new why) }
         ensures unasked { IfStoreUnasked result (store.new ≡ store.old) }
     {
         accepted_apply_singly();
@@ -139,7 +140,8 @@ impl Endpoint {
         ensures leaves { IfStoreFailed result (λ back.
             S.leaves store.new self.old.tables.rows self.old.cursor
             (overlaid self.old.tables.rows (planned_changes back)) last) }
-        ensures failed { IfStoreFailed result (λ _. S.failed store.new) }
+        ensures failed { IfStoreFailed result (λ back. (why : S.Error) × S.failed store.old
+            (planned_changes back) last store.new why) }
     {
         match commit_durably(alloc, &mut self.tables, store, plan, last) {
             Ok(()) => {
@@ -147,7 +149,7 @@ impl Endpoint {
                 Ok(last)
             }
             Err(NotCommitted::Memory) => Err(KeepError::Memory),
-            Err(NotCommitted::Store(plan)) => {
+            Err(NotCommitted::Store(plan, _)) => {
                 self.fallen = true;
                 Err(KeepError::Store(plan))
             }

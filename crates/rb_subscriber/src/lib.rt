@@ -7,6 +7,7 @@
 
 mod applier;
 mod apply;
+mod batches;
 mod beginning;
 mod brought;
 mod durable;
@@ -29,5 +30,6 @@ pub use endpoint::Endpoint;
 pub use lost::Lost;
 pub use refusal::{AcceptError, AcceptRefusal, SubscriptionError};
 pub use register::{Auditor, MOST_SUBSCRIPTIONS, Missing, Register};
+pub use shown::{Shown, ShownEntries};
 pub use step_ledger::StepLedger;
 pub use subscription::Subscription;

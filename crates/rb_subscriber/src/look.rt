@@ -4,9 +4,10 @@ ghost use Rattle.std.specs.Prelude.{◌≡◌, ◌≤◌};
 ghost use Rattle.rb_subscriber.specs.AcceptShown.{LookAnswers, outside_after};
 
 use crate::refusal::{AcceptRefusal, SubscriptionError};
+use crate::shown::Shown;
 use cs_model::Schema;
 use rb_desk::Delivery;
-use rb_sequence::Sequence;
+use rb_sequence::{Sequence, Sight};
 
 /// Why a delivery isn't accepted where there is no room for its tokens: `Unseen`, `Shape`, or
 /// `Memory`.
@@ -15,17 +16,24 @@ pub(crate) fn look(sequence: &Sequence, schema: &Schema, delivery: &Delivery) ->
     ensures { LookAnswers sequence.now delivery.now schema.now result }
 {
     let mut outside = None;
+    let mut sight = Sight::nothing();
     for past in 0..delivery.last() - (delivery.first() - 1) {
         let number = delivery.first() + past;
         let Some(told) = sequence.tell(number) else {
-            return SubscriptionError::Unseen { number };
+            let shown = Shown::Seen(sight);
+            return SubscriptionError::Unseen { number, shown };
         };
         let body = sequence.get_told(&told).body();
         outside = after(outside, schema.admits(body).is_err(), number);
+        sight = sight.with(&told);
     }
+    let shown = Shown::Seen(sight);
     match outside {
-        Some(number) => SubscriptionError::Refused(AcceptRefusal::Shape { number }),
-        None => SubscriptionError::Memory,
+        Some(number) => {
+            let why = AcceptRefusal::Shape { number };
+            SubscriptionError::RefusedEntries { why, shown }
+        }
+        None => SubscriptionError::Memory { shown },
     }
 }
 

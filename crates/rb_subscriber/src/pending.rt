@@ -1,12 +1,13 @@
 //! What is pending over a subscription that fell: what its durable store may have beyond it.
 
-ghost use Rattle.std.specs.Prelude.{◌≡◌, ◌≤◌, ◌+◌, ◌++◌, ◌<◌, length, IfSome, IsSome};
+ghost use Rattle.std.specs.Prelude.{◌≡◌, ◌≤◌, ◌+◌, ◌++◌, ◌<◌, ◌∷◌, [], length, IfSome, IsSome};
 ghost use Rattle.std.specs.Prelude.{false, if◌then◌else◌};
 ghost use Rattle.std.specs.{Bool.{Decides}, Vec.{vec_capacity, vec_len}};
 ghost use Rattle.rb_subscriber.specs.Lost.{FitsLost, cursor_after, pending_tokens, gone_on};
 ghost use Rattle.rb_subscriber.specs.Lost.{tables_after};
 ghost use Rattle.rb_subscriber.specs.Subscription.{cursor_of};
 
+use crate::batches::{Batch, Batches};
 use crate::endpoint::Endpoint;
 use crate::shown::add;
 use crate::step_ledger::StepLedger;
@@ -42,20 +43,31 @@ fn count(pending: &Option<Pending>) -> usize
     pending.told.len()
 }
 
-// these tokens, and behind them those that are pending, if those are kept
-fn joined(told: Vec<Told>, pending: Option<Pending>, kept: bool) -> Vec<Told>
-    requires { IfSome pending (λ p. vec_len told + length p.tokens ≤ vec_capacity told) }
-    ensures { result.items ≡ if kept then told.items ++ pending_tokens pending else told.items }
+// these tokens and batches, and behind them those that are pending, if those are kept
+fn joined(
+    told: Vec<Told>,
+    batches: Batches,
+    pending: Option<Pending>,
+    kept: bool,
+) -> (Vec<Told>, Batches)
+    requires some { IsSome pending }
+    requires room { IfSome pending (λ p. vec_len told + length p.tokens ≤ vec_capacity told) }
+    ensures told { result.0.items
+        ≡ if kept then told.items ++ pending_tokens pending else told.items }
+    ensures batches { result.1.list
+        ≡ if kept then batches.list ++ pending_tokens pending ∷ [] else batches.list }
 {
-    if !kept {
-        return told;
-    }
     let Some(pending) = pending else {
-        return told;
+        unreachable!();
     };
+    if !kept {
+        return (told, batches);
+    }
+    let batch = Batch { told: pending.told };
+    let all_batches = batches.with(&batch);
     let mut all = told;
-    add(&mut all, pending.told);
-    all
+    add(&mut all, batch.told);
+    (all, all_batches)
 }
 
 impl<L: StepLedger> Subscription<L> {
@@ -91,17 +103,19 @@ impl<L: StepLedger> Subscription<L> {
             end,
             base,
             told,
+            batches,
             pending,
             steps,
             share,
         } = self;
         let kept = cursor != end.cursor();
-        let told = joined(told, pending, kept);
+        let (told, batches) = joined(told, batches, pending, kept);
         Subscription {
             sub,
             end: end.goes_on(tables, cursor, link),
             base,
             told,
+            batches,
             pending: None,
             steps,
             share,

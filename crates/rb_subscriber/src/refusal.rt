@@ -2,6 +2,7 @@
 
 ghost use Rattle.std.specs.Prelude.{◌≡◌};
 
+use crate::shown::Shown;
 use cs_apply::Conflict;
 use std::alloc::AllocError;
 use thiserror::Error;
@@ -48,18 +49,24 @@ pub enum AcceptError {
 
 /// What stops `Subscription::accept`, `accept_alone` and `accept_durable`. The stopped call does
 /// not change the subscription, but for one case: where its store fails, `accept_durable` returns
-/// `Store`, and the subscription has fallen.
-#[derive(Clone, Copy, Debug, PartialEq, Eq, Error)]
+/// `Store`, and the subscription has fallen. What the cells showed comes back, so the caller sees
+/// which entries are the reason.
+#[derive(Debug, Drop, Error)]
 pub enum SubscriptionError {
-    /// The delivery is refused.
+    /// The delivery is refused, whatever its entries are: `Store`, `Closed`, `StaleLink`, `Seen` or
+    /// `Gap`.
     #[error("{0}")]
     Refused(AcceptRefusal),
-    /// The cell of this number, one of the delivery's, showed nothing.
+    /// The delivery is refused for its entries, which are these: `Shape` or `Conflict`.
+    #[error("{why}")]
+    RefusedEntries { why: AcceptRefusal, shown: Shown },
+    /// The cell of this number, one of the delivery's, showed nothing. Those before it showed these
+    /// entries.
     #[error("the entry {number} isn't seen yet")]
-    Unseen { number: u64 },
-    /// Memory ran out. It may replace a conflict, but no other refusal.
+    Unseen { number: u64, shown: Shown },
+    /// Memory ran out, for these entries. It may replace a conflict, but no other refusal.
     #[error("out of memory")]
-    Memory,
+    Memory { shown: Shown },
 }
 
 impl From<AcceptRefusal> for AcceptError {

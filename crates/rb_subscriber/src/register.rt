@@ -6,6 +6,7 @@ ghost use Rattle.rb_subscriber.specs.Lost.{FitsLost, gone_on};
 ghost use Rattle.rb_subscriber.specs.Register.{AuditorState, RegisterState, all_steps};
 ghost use Rattle.rb_subscriber.specs.Subscription.{new_subscription};
 
+use crate::batches::Batches;
 use crate::beginning::Beginning;
 use crate::endpoint::Endpoint;
 use crate::lost::Lost;
@@ -117,6 +118,7 @@ impl<L: StepLedger> Register<L> {
             end: Endpoint::new(start, link, tables),
             base,
             told: Vec::new(alloc),
+            batches: Batches::none(),
             pending: None,
             steps: 0,
             share,

@@ -10,17 +10,19 @@ ghost use Rattle.rb_subscriber.specs.{
   Accept.{AsksNoEntries, HasSingleTables, refusal_before},
   Applier.{Applies, IsApplied},
   AcceptShown.{ShownAnswers, ConflictsShown, DueAnswers},
+  Batches.{HasBatchTables},
   Durable.{IsPendingOver},
   Shown.{entries_told},
-  Subscription.{cursor_of, own_endpoint, accepted_token},
+  Subscription.{cursor_of, own_endpoint, accepted_token, batches_told},
 };
 
 use crate::applier::Workers;
+use crate::batches::{Batch, Batches};
 use crate::beginning::Beginning;
 use crate::endpoint::Endpoint;
 use crate::pending::Pending;
 use crate::refusal::{AcceptError, AcceptRefusal, SubscriptionError};
-use crate::shown::{Shown, add, tokens_of};
+use crate::shown::{Shown, ShownEntries, add, tokens_of};
 use crate::step_ledger::StepLedger;
 use cs_apply::{ApplyError, Tables};
 use cs_model::Changeset;
@@ -43,6 +45,8 @@ pub struct Subscription<L: StepLedger> {
     // what its tables were when it began
     pub(crate) base: Beginning,
     pub(crate) told: Vec<Told>,
+    // which of the tokens came together
+    pub(crate) batches: Batches,
     // there exactly if it has fallen
     pub(crate) pending: Option<Pending>,
     pub(crate) steps: u64,
@@ -60,9 +64,10 @@ impl<L: StepLedger> Model for Subscription<L> {
     ghost use Rattle.rb_sequence.specs.Cells.{AreInCells};
     ghost use Rattle.rb_subscriber.specs.{
       Accept.{HasSingleTables},
+      Batches.{HasBatchTables},
       Durable.{IsPendingOver},
       Shown.{entries_told},
-      Subscription.{SubscriptionState},
+      Subscription.{SubscriptionState, batches_told},
     };
 
     ghost Value = { SubscriptionState };
@@ -77,6 +82,7 @@ impl<L: StepLedger> Model for Subscription<L> {
       base = s.base.value;
       tables = s.end.tables;
       told = s.told.items;
+      batches = s.batches.list;
       pending = s.pending;
       steps = s.steps;
     } };
@@ -90,7 +96,9 @@ impl<L: StepLedger> Model for Subscription<L> {
         × IfSome s.pending (λ p. (vec_len s.told + length p.tokens ≤ vec_capacity s.told)
         × (s.end.cursor + length p.tokens < 2 ^ 64))
         × (s.share.parts ≡ 1)
-        × (s.share.amount ≡ s.steps) };
+        × (s.share.amount ≡ s.steps)
+        × HasBatchTables s.base.value (batches_told s.batches.list) (entries_told s.told.items)
+        s.end.tables };
 }
 
 impl<L: StepLedger> Subscription<L> {
@@ -114,7 +122,7 @@ impl<L: StepLedger> Subscription<L> {
     ) -> Result<u64, SubscriptionError>
         requires { sequence.now ≡ L.cells }
         ensures answers { ShownAnswers L.cells delivery.now result self.old self.new }
-        ensures conflicts { ConflictsShown L.cells delivery.now self.old.tables result }
+        ensures conflicts { ConflictsShown self.old.tables result }
     {
         self.accept_by(
             &|tables: &mut Tables, changeset: &Changeset| -> Result<(), ApplyError>
@@ -145,7 +153,7 @@ impl<L: StepLedger> Subscription<L> {
     ) -> Result<u64, SubscriptionError>
         requires { sequence.now ≡ L.cells }
         ensures answers { ShownAnswers L.cells delivery.now result self.old self.new }
-        ensures conflicts { ConflictsShown L.cells delivery.now self.old.tables result }
+        ensures conflicts { ConflictsShown self.old.tables result }
     {
         self.accept_by(
             &|tables: &mut Tables, changeset: &Changeset| -> Result<(), ApplyError>
@@ -168,7 +176,7 @@ impl<L: StepLedger> Subscription<L> {
         requires applier { Applies F.Fn applier.now }
         requires cells { sequence.now ≡ L.cells }
         ensures answers { ShownAnswers L.cells delivery.now result self.old self.new }
-        ensures conflicts { ConflictsShown L.cells delivery.now self.old.tables result }
+        ensures conflicts { ConflictsShown self.old.tables result }
     {
         match self.refuses(delivery) {
             Some(why) => Err(SubscriptionError::Refused(why)),
@@ -203,21 +211,29 @@ impl<L: StepLedger> Subscription<L> {
         requires due { (delivery.now.first ≡ suc (cursor_of self.old))
             × (cursor_of self.old < delivery.now.last) }
         ensures answers { DueAnswers L.cells delivery.now result self.old self.new }
-        ensures conflicts { ConflictsShown L.cells delivery.now self.old.tables result }
+        ensures conflicts { ConflictsShown self.old.tables result }
     {
         let schema = self.end.tables().schema();
         let shown = tokens_of(alloc, sequence, &mut self.told, schema, delivery)?;
-        let entries = Shown {
+        let entries = ShownEntries {
             sequence,
             told: &shown,
         };
         match self.end.accept_brought(applier, alloc, &entries, delivery) {
             Ok(cursor) => {
-                add(&mut self.told, shown);
+                let batch = Batch { told: shown };
+                self.batches = self.batches.with(&batch);
+                add(&mut self.told, batch.told);
                 Ok(cursor)
             }
-            Err(AcceptError::Refused(why)) => Err(SubscriptionError::Refused(why)),
-            Err(AcceptError::Memory) => Err(SubscriptionError::Memory),
+            Err(AcceptError::Refused(why)) => {
+                let shown = Shown::Held(shown);
+                Err(SubscriptionError::RefusedEntries { why, shown })
+            }
+            Err(AcceptError::Memory) => {
+                let shown = Shown::Held(shown);
+                Err(SubscriptionError::Memory { shown })
+            }
         }
     }
 
@@ -259,10 +275,13 @@ impl<L: StepLedger> Subscription<L> {
         self.end.cursor()
     }
 
-    /// Its tables. If the changesets that it accepted apply one after another without conflict to
-    /// the tables that it began with, they are what that gives.
+    /// Its tables. They are what the groups of the deliveries that it accepted leave, applied one
+    /// after another to the tables that it began with. If the changesets apply one after another
+    /// without conflict, they are what that gives.
     pub fn tables(&self) -> &Tables
         ensures value { result.now ≡ self.now.tables }
+        ensures batches { HasBatchTables self.now.base (batches_told self.now.batches)
+            (entries_told self.now.told) self.now.tables }
         ensures singly { HasSingleTables self.now.base (entries_told self.now.told)
             self.now.tables }
     {

@@ -199,8 +199,8 @@ fn place<L: Hall, R: Wait>(
         let is_last = all_sent.load(Ordering::SeqCst);
         match sequencer.turn(rt, alloc, broker) {
             Turn::Placed(_told) => {}
-            Turn::Idle if !is_last => thread::yield_now(),
-            Turn::Idle | Turn::Refused(_) => break,
+            Turn::Idle(_) if !is_last => thread::yield_now(),
+            Turn::Idle(_) | Turn::Refused(_) => break,
         }
     }
     broker.close(rt);

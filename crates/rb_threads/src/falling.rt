@@ -3,9 +3,10 @@
 
 use crate::history::{History, Said, made};
 use crate::subscribing::accepted;
+use cs_apply::Tables;
 use par_apply::{DurableRows, Open, RowChange};
-use rb_broker::{Hall, ResumeError};
-use rb_subscriber::Workers;
+use rb_broker::{Broker, Hall, RefusedResume, ResumeError};
+use rb_subscriber::{Lost, Subscription, Workers};
 use std::alloc::Global;
 use std::sync::Wait;
 use std::test::Fail;
@@ -22,7 +23,7 @@ impl DurableRows for FailingStore {
 
     ghost leaves = { λ _ _ _ _ _. Unit {0} };
 
-    ghost failed = { λ _. Unit {0} };
+    ghost failed = { λ _ _ _ _ _. Unit {0} };
 
     type Error = ();
 
@@ -82,7 +83,7 @@ impl<L: Hall> History<L> {
         self.subscriptions.reserve(1)?;
         let tables = self.tables_at(alloc, count)?;
         let lost = made(self.lost.take())?;
-        match self.broker.resume(rt, alloc, lost, tables, cursor) {
+        match call_resume(&self.broker, rt, alloc, lost, tables, cursor) {
             Ok(subscription) => {
                 let link = subscription.link();
                 self.subscriptions.push_reserved(subscription);
@@ -97,4 +98,17 @@ impl<L: Hall> History<L> {
             }
         }
     }
+}
+
+// a function of its own, so that refused/calls.txt can name it
+#[inline(never)]
+fn call_resume<L: Hall, R: Wait>(
+    broker: &Broker<L>,
+    rt: &R,
+    alloc: Global,
+    lost: Lost<L>,
+    tables: Tables,
+    cursor: u64,
+) -> Result<Subscription<L>, RefusedResume<L>> {
+    broker.resume(rt, alloc, lost, tables, cursor)
 }

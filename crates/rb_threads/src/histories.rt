@@ -8,9 +8,10 @@ use crate::history::{History, Said};
 use crate::rows::{
     A_LATE_CLOCK_IS_NO_EARLIER_ONE, A_NEW_LINK_AT_THE_FRONT, A_NEW_LINK_CUTS_ANEW,
     A_REFUSED_BATCH_IS_OPENED, CLOSED_BEFORE_THE_TAKES, CLOSED_SEQUENCE,
-    FOREIGN_DELIVERIES_ARE_REFUSED, FULL_INTAKE, LEFT, MOST_WAITING, ONE_MORE_AND_THE_LAST,
-    RESUMED_FROM_AFTER, RESUMED_FROM_BEFORE, Row, SEGMENT, THE_WINDOW_AND_THE_FLOOR, UNFINISHED,
-    WHAT_EXPIRES_IS_DELIVERED_AGAIN, WHAT_IS_GIVEN_BACK_GOES_TO_ANY, WITHDRAWAL,
+    FOREIGN_DELIVERIES_ARE_REFUSED, FULL_INTAKE, LEFT, MOST_IN_A_BATCH, MOST_WAITING,
+    ONE_MORE_AND_THE_LAST, RESUMED_FROM_AFTER, RESUMED_FROM_BEFORE, Row, SEGMENT,
+    THE_WINDOW_AND_THE_FLOOR, THREE_SEGMENTS, UNFINISHED, WHAT_EXPIRES_IS_DELIVERED_AGAIN,
+    WHAT_IS_GIVEN_BACK_GOES_TO_ANY, WITHDRAWAL,
 };
 use rb_broker::{Hall, MOST_PUBLISHERS, Opened, PlaceRefusal, Publisher, TakeError};
 use rb_close::{FinishRefusal, Finished, Unfinished, finish};
@@ -77,8 +78,13 @@ fn as_many_are_left_as_may_be(rt: HostRuntime) -> Result<(), Fail> {
 }
 
 #[test]
-fn the_next_segment(rt: HostRuntime) -> Result<(), Fail> {
-    on_broker(&rt, rt.alloc(), (16, 4, SEGMENT + 1, 1), Scenario::Fill)
+fn three_segments(rt: HostRuntime) -> Result<(), Fail> {
+    on_broker(
+        &rt,
+        rt.alloc(),
+        (MOST_IN_A_BATCH, 4, THREE_SEGMENTS, 1),
+        Scenario::Fill,
+    )
 }
 
 #[test]
@@ -197,25 +203,46 @@ fn counts<L: Hall, R: Wait + Abort>(
     Ok(())
 }
 
-// Empty changesets fill the first segment and the one cell of the second. Then the sequence is
-// full.
-fn fills<L: Hall, R: Wait + Abort>(
+// Empty changesets fill two segments and the one cell of the third. Then the sequence is full. A
+// subscription accepts all of it, in deliveries of as many as there may be.
+fn fills<L: Hall, R: Threads + Wait + Abort + Sync>(
     rt: &R,
     alloc: Global,
     history: &mut History<L>,
 ) -> Result<(), Fail> {
-    for number in 1..=SEGMENT + 1 {
+    for number in 1..=THREE_SEGMENTS {
         assert!(rt; history.broker.sequence().get(number).is_none());
         assert_eq!(rt; placed(history.put(rt, alloc, b"")?), Some(number));
     }
-    for number in [1, SEGMENT, SEGMENT + 1] {
+    for number in [1, SEGMENT, SEGMENT + 1, 2 * SEGMENT, THREE_SEGMENTS] {
         let sequence = history.broker.sequence();
         let (entry, told) = (sequence.get(number), sequence.tell(number));
         assert_eq!(rt; entry.map(|entry| entry.number()), Some(number));
         assert_eq!(rt; told.map(|told| told.number()), Some(number));
     }
     assert_eq!(rt; placed(history.put(rt, alloc, b"")?), None);
-    Ok(())
+    accepts_all(rt, alloc, history)
+}
+
+fn accepts_all<L: Hall, R: Threads + Wait + Abort + Sync>(
+    rt: &R,
+    alloc: Global,
+    history: &mut History<L>,
+) -> Result<(), Fail> {
+    history.run(rt, alloc, "subscribe 0 = Made")?;
+    for batch in 0..=THREE_SEGMENTS / MOST_IN_A_BATCH {
+        let before = batch.saturating_mul(MOST_IN_A_BATCH);
+        let (number, first) = (batch.saturating_add(1), before.saturating_add(1));
+        let upto = THREE_SEGMENTS.min(before.saturating_add(MOST_IN_A_BATCH));
+        let lines = format!(in alloc;
+            "\
+take 0 0 = Delivery({number}, 0, {first}, {upto})
+accept 0 {batch} = Accepted({upto})
+ack 0 {batch} = Floor({upto})"
+        )?;
+        history.run(rt, alloc, &lines)?;
+    }
+    history.run(rt, alloc, "subscribe 131073 = Made")
 }
 
 // the number that was placed

@@ -8,7 +8,6 @@ use crate::given::{empty_tables, publisher};
 use cs_apply::Tables;
 use rb_broker::{
     AddRefusal, Broker, Hall, Opened, Publisher, PublisherMaker, ResumeError, Started,
-    WithdrawRefusal,
 };
 use rb_desk::{Delivery, DeskError, DeskRefusal};
 use rb_sequencer::Sequencer;
@@ -28,7 +27,10 @@ pub enum Said {
     /// The changeset's number among its publisher's sendings.
     Sent(u64),
     Full,
-    NotWithdrawn(WithdrawRefusal),
+    NotPlaced,
+    /// The number of the entry that isn't withdrawn, by its token.
+    NotYours(u64),
+    AlreadyWithdrawn(u64),
     /// The number that is placed.
     Placed(u64),
     Idle,

@@ -306,7 +306,7 @@ fn place<L: Hall, R: Wait>(
         }
         match sequencer.turn(rt, alloc, broker) {
             Turn::Placed(_) => {}
-            Turn::Idle => thread::yield_now(),
+            Turn::Idle(_) => thread::yield_now(),
             Turn::Refused(_) => return Err("an item isn't placed"),
         }
     }

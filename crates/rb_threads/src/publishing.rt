@@ -1,12 +1,20 @@
 //! Calls of a history's publishers and of its sequencer.
 
-use crate::given::{delete, insert, insert_and_update};
+ghost use Rattle.std.specs.Prelude.{◌≡◌, []};
+
+use crate::given::{delete, insert, insert_and_update, opened, publisher};
 use crate::history::{History, Said, made};
 use cs_model::Origin;
 use cs_parse::ParseError;
-use rb_broker::{AddRefusal, Hall, PlaceRefusal, SendRefusal, WithdrawRefusal};
+use rb_broker::{
+    AddRefusal, Broker, Hall, Occupied, Opened, PlaceRefusal, RefusedItem, SendRefusal, Started,
+    WithdrawRefusal,
+};
+use rb_intake::SequencerPass;
 use rb_sequencer::Turn;
-use std::alloc::Global;
+use std::alloc::{AllocError, Global};
+use std::marker::Brand;
+use std::process::Abort;
 use std::sync::Wait;
 use std::test::Fail;
 
@@ -72,8 +80,7 @@ impl<L: Hall> History<L> {
         let publisher = made(self.publishers.get_mut(p as usize))?;
         match publisher.withdraw(alloc, self.broker.sequence(), number) {
             Ok(set) => Ok(sent(publisher.send(rt, &self.broker, set))),
-            Err(WithdrawRefusal::Memory) => Ok(Said::Memory),
-            Err(why) => Ok(Said::NotWithdrawn(why)),
+            Err(why) => Ok(not_withdrawn(&why)),
         }
     }
 
@@ -81,11 +88,11 @@ impl<L: Hall> History<L> {
     fn turn<R: Wait>(&mut self, rt: &R, alloc: Global) -> Said {
         match self.sequencer.turn(rt, alloc, &self.broker) {
             Turn::Placed(told) => Said::Placed(told.number()),
-            Turn::Idle => Said::Idle,
+            Turn::Idle(_) => Said::Idle,
             Turn::Refused(PlaceRefusal::SequenceFull) => Said::SequenceFull,
             Turn::Refused(PlaceRefusal::Closed(last)) => Said::Closed(last.last()),
             Turn::Refused(PlaceRefusal::Memory) => Said::Memory,
-            Turn::Refused(PlaceRefusal::JournalFull | PlaceRefusal::Occupied) => Said::Unknown,
+            Turn::Refused(PlaceRefusal::JournalFull | PlaceRefusal::Occupied(_)) => Said::Unknown,
         }
     }
 
@@ -128,5 +135,77 @@ fn sent<L: Hall>(answer: Result<u64, SendRefusal<L>>) -> Said {
         Ok(own) => Said::Sent(own),
         Err(SendRefusal::Full(_)) => Said::Full,
         Err(SendRefusal::Closed(last, _)) => Said::Closed(last.last()),
+    }
+}
+
+fn not_withdrawn(why: &WithdrawRefusal) -> Said {
+    match why {
+        WithdrawRefusal::NotPlaced => Said::NotPlaced,
+        WithdrawRefusal::NotYours(told) => Said::NotYours(told.number()),
+        WithdrawRefusal::AlreadyWithdrawn(told) => Said::AlreadyWithdrawn(told.number()),
+        WithdrawRefusal::Memory(_) => Said::Memory,
+    }
+}
+
+#[test]
+fn items_are_placed_in_order(rt: HostRuntime) -> Result<(), Fail> {
+    second_first(&rt, rt.alloc())
+}
+
+fn second_first<R: Wait + Abort>(rt: &R, alloc: Global) -> Result<(), Fail> {
+    let opened = opened(alloc, (16, 4, 16, 4))?;
+    pulls_two::<Brand, R>(rt, alloc, opened)
+}
+
+// Two are pulled. The second isn't placed as long as the first isn't.
+fn pulls_two<L: Hall, R: Wait + Abort>(rt: &R, alloc: Global, opened: Opened) -> Result<(), Fail>
+    requires sequence { (opened.limits ≡ L.limits) × (opened.cells ≡ L.cells) }
+    requires queue { opened.queue ≡ L.queue }
+    requires ledger { (opened.ledger ≡ L.name) × (L.parts ≡ 1024) × (L.all ≡ 1024) }
+{
+    let Started {
+        broker,
+        sequencer: mut pass,
+        publishers: mut maker,
+        ..
+    } = Broker::<L>::start(opened);
+    let mut publisher = publisher(alloc, &mut maker, &broker)?;
+    for _ in 0..2_usize {
+        let set = publisher.end(alloc)?;
+        if publisher.send(rt, &broker, set).is_err() {
+            return Err(Fail::new("four may wait"));
+        }
+    }
+    assert_eq!(rt; next_number(rt, alloc, &broker, &mut pass)?, 1);
+    Ok(())
+}
+
+// the number that the desk places next, where the second item is to be placed
+fn next_number<L: Hall, R: Wait>(
+    rt: &R,
+    alloc: Global,
+    broker: &Broker<L>,
+    pass: &mut SequencerPass,
+) -> Result<u64, Fail>
+    requires { pass.old ≡ record { queue = L.queue; pulled = []; ended = [] } }
+{
+    let first = broker.pull(rt, pass).ok();
+    let (Some(_), Ok(second)) = (first, broker.pull(rt, pass)) else {
+        return Err(Fail::new("two wait"));
+    };
+    match broker.place_next(rt, alloc, pass, second, 2) {
+        Err(
+            RefusedItem {
+                why: PlaceRefusal::Occupied(Occupied::Next(next)),
+                ..
+            },
+        ) => Ok(next),
+        Err(
+            RefusedItem {
+                why: PlaceRefusal::Memory,
+                ..
+            },
+        ) => Err(AllocError.into()),
+        _ => Err(Fail::new("the first isn't placed")),
     }
 }

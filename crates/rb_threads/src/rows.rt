@@ -32,10 +32,10 @@ turn = Placed(2)
 entry 1 = Sent(1)
 entry 2 = Withdraws(1)
 text 2 = 5402010074000900010000000000000001030179
-withdraw 0 1 = NotWithdrawn(AlreadyWithdrawn)
-withdraw 0 3 = NotWithdrawn(NotPlaced)
+withdraw 0 1 = AlreadyWithdrawn(1)
+withdraw 0 3 = NotPlaced
 publisher = Publisher(1)
-withdraw 1 1 = NotWithdrawn(NotYours)
+withdraw 1 1 = NotYours(1)
 withdraw 0 2 = Sent(3)
 turn = SequenceFull
 subscribe 0 = Made
@@ -50,6 +50,7 @@ pub const CLOSED_SEQUENCE: Row = (
 send 0 1 = Sent(1)
 close = Closed(0)
 close = Closed(0)
+send 0 2 = Closed(0)
 send 0 2 = Closed(0)
 turn = Closed(0)
 hand = Hand(Some((0, 1)))",
@@ -306,6 +307,7 @@ ack 0 4 = Floor(7)",
     8,
 );
 
+// The resumption is the step for which the journal needs its second piece, of 1,024 steps.
 pub const RESUMED_FROM_AFTER: Row = (
     (2, 4, 16, 4),
     b"\
@@ -323,6 +325,7 @@ take 0 0 = Delivery(3, 0, 6, 7)
 durable 0 0 = Accepted(3)
 durable 0 1 = Refused(Store)
 fall = Fell(3, 5, 2)
+expires 0 1013 = Expired(0)
 resume 5 5 = Link(2)
 durable 0 2 = Refused(StaleLink)
 take 0 0 = Delivery(4, 0, 6, 7)
@@ -356,3 +359,9 @@ pub const MOST_WAITING: u64 = 4_096;
 
 // the numbers of a segment
 pub const SEGMENT: u64 = 65_536;
+
+// two segments of these, and one entry more
+pub const THREE_SEGMENTS: u64 = 131_073;
+
+// the most numbers in a delivery
+pub const MOST_IN_A_BATCH: u64 = 256;

@@ -6,7 +6,7 @@ use cs_model::Schema;
 use par_apply::Open;
 use rb_broker::{Hall, RefusedSubscription, SubscribeError, TakeError};
 use rb_desk::Delivery;
-use rb_subscriber::{SubscriptionError, Workers};
+use rb_subscriber::{AcceptRefusal, Shown, SubscriptionError, Workers};
 use std::alloc::Global;
 use std::sync::{Arc, Wait};
 use std::test::Fail;
@@ -37,6 +37,7 @@ impl<L: Hall> History<L> {
                 Ok(many) => Said::Expired(many),
                 Err(error) => error.into(),
             }),
+            "expires" => self.expire_often(rt, alloc, a, b),
             "reconnect" => self.reconnect(rt, alloc, sub),
             "unsubscribe" => self.unsubscribe(rt, alloc, sub),
             "durable" => self.accept_durable(rt, alloc, sub, delivery),
@@ -163,6 +164,24 @@ impl<L: Hall> History<L> {
         }
     }
 
+    // expires at this tick so many times, which makes steps for the journal
+    fn expire_often<R: Wait>(
+        &mut self,
+        rt: &R,
+        alloc: Global,
+        now: u64,
+        times: u64,
+    ) -> Result<Said, Fail> {
+        let mut all: u64 = 0;
+        for _ in 0..times {
+            match self.broker.expire(rt, alloc, now) {
+                Ok(many) => all = all.wrapping_add(many),
+                Err(error) => return Ok(error.into()),
+            }
+        }
+        Ok(Said::Expired(all))
+    }
+
     fn reconnect<R: Wait>(&mut self, rt: &R, alloc: Global, sub: usize) -> Result<Said, Fail> {
         let subscription = made(self.subscriptions.get_mut(sub))?;
         match self.broker.reconnect(rt, alloc, subscription) {
@@ -192,7 +211,18 @@ pub fn accepted(answer: Result<u64, SubscriptionError>) -> Result<Said, Fail> {
     match answer {
         Ok(cursor) => Ok(Said::Accepted(cursor)),
         Err(SubscriptionError::Refused(why)) => Ok(Said::Refused(why)),
-        Err(SubscriptionError::Memory) => Ok(Said::Memory),
+        Err(SubscriptionError::RefusedEntries { why, shown }) => refused_for(why, &shown),
+        Err(SubscriptionError::Memory { .. }) => Ok(Said::Memory),
         Err(SubscriptionError::Unseen { .. }) => Err(Fail::new("the cell shows its entry")),
+    }
+}
+
+// A refusal for a delivery's entries holds their tokens. A refused allocation of these is called
+// once more.
+fn refused_for(why: AcceptRefusal, shown: &Shown) -> Result<Said, Fail> {
+    match shown {
+        Shown::Held(told) if !told.is_empty() => Ok(Said::Refused(why)),
+        Shown::Held(_) => Err(Fail::new("a refusal shows an entry")),
+        Shown::Seen(_) => Ok(Said::Memory),
     }
 }

@@ -1,7 +1,10 @@
 //! The texts of what a broker refuses.
 
-use rb_broker::{AddRefusal, PlaceRefusal, SubscribeError, TakeError, WithdrawRefusal};
+use cs_model::{Changeset, Origin};
+use rb_broker::{AddRefusal, Occupied, PlaceRefusal, SubscribeError, TakeError, WithdrawRefusal};
 use rb_desk::{DeskError, DeskRefusal};
+use rb_sequence::{Entry, Item, Sequence, Told};
+use std::alloc::Global;
 use std::test::Fail;
 
 #[test]
@@ -14,22 +17,35 @@ fn publishers_are_told_why(rt: HostRuntime) -> Result<(), Fail> {
     for (why, text) in added {
         assert_eq!(rt; format!(in alloc; "{why}")?.as_str(), text);
     }
+    let told = token(alloc)?;
     let withdrawn = [
         (WithdrawRefusal::NotPlaced, "there is no such entry"),
         (
-            WithdrawRefusal::NotYours,
+            WithdrawRefusal::NotYours(told.again()),
             "the entry is another publisher's",
         ),
         (
-            WithdrawRefusal::AlreadyWithdrawn,
+            WithdrawRefusal::AlreadyWithdrawn(told.again()),
             "the entry is withdrawn already",
         ),
-        (WithdrawRefusal::Memory, "out of memory"),
+        (WithdrawRefusal::Memory(told), "out of memory"),
     ];
     for (why, text) in withdrawn {
         assert_eq!(rt; format!(in alloc; "{why}")?.as_str(), text);
     }
     Ok(())
+}
+
+// a token of an entry
+fn token(alloc: Global) -> Result<Told, Fail> {
+    let (_sequence, preparer, mut filler) = Sequence::new(alloc, 1)?;
+    let item = Item::new(0, 1, Origin::Sent, Changeset::new(alloc));
+    let form = item.form(alloc)?;
+    let ready = preparer.ready(alloc, Entry::new(alloc, 1, item, form))?;
+    match filler.fill(ready) {
+        Ok(told) => Ok(told),
+        Err(_) => Err(Fail::new("the cell of 1 is set")),
+    }
 }
 
 #[test]
@@ -38,7 +54,7 @@ fn turns_say_why(rt: HostRuntime) -> Result<(), Fail> {
     let placed = [
         (PlaceRefusal::JournalFull, "the journal is full"),
         (PlaceRefusal::SequenceFull, "the sequence is full"),
-        (PlaceRefusal::Occupied, "the cell is set"),
+        (PlaceRefusal::Occupied(Occupied::Next(1)), "the cell is set"),
         (PlaceRefusal::Memory, "out of memory"),
     ];
     for (why, text) in placed {

@@ -71,7 +71,7 @@ impl<L: Hall> Stand<L> {
         }
         match self.sequencer.turn(rt, alloc, &self.broker) {
             Turn::Placed(_) => Ok(()),
-            Turn::Idle | Turn::Refused(_) => Err(io::Error::other("a changeset isn't placed")),
+            Turn::Idle(_) | Turn::Refused(_) => Err(io::Error::other("a changeset isn't placed")),
         }
     }
 }

@@ -1,5 +1,6 @@
 -- What the statements of a transaction do to a replica's trees.
 use Rattle.std.specs.Prelude.{◌≡◌, ◌⊎◌, ℕ, List, [], IsTrue}
+use Rattle.sqlite.specs.Effect.{IsDatabase}
 use Rattle.sqlite.specs.State.{State}
 use Rattle.cs_model.specs.declared.row_key.RowKey.{RowKey}
 use Rattle.replica_store.specs.Layout.{empty_schema, rows_schema, replica_schema}
@@ -15,10 +16,12 @@ abbrev pub WithBody : RowKey → List ℕ → StoredRows → StoredRows
 WithBody put value rows key body =
     ((key ≡ put) × (body ≡ value)) ⊎ ((key ≡ put → ⊥) × rows key body)
 
--- a transaction is open over a replica's trees
+-- a transaction is open over a replica's trees, which obey their schema
 pub record IsInside (s : State) : Type 0 where
+  pub is_open : IsTrue s.is_open
   pub inside : IsTrue s.in_transaction
   pub schema : s.now.schema ≡ replica_schema
+  pub sound : IsDatabase s.now
   pub replica : IsReplica s.now.trees
 
 -- the rows change so, and the cursor stays
@@ -40,14 +43,17 @@ pub record IsBlankInside (s : State) : Type 0 where
 
 -- a transaction is open, and the table of rows is there and empty
 pub record HasRowTable (s : State) : Type 0 where
+  pub is_open : IsTrue s.is_open
   pub inside : IsTrue s.in_transaction
   pub schema : s.now.schema ≡ rows_schema
   pub empty : s.now.trees 0 ≡ []
 
 -- a transaction is open, and both tables are there and empty
 pub record HasBothTables (s : State) : Type 0 where
+  pub is_open : IsTrue s.is_open
   pub inside : IsTrue s.in_transaction
   pub schema : s.now.schema ≡ replica_schema
+  pub sound : IsDatabase s.now
   pub empty : s.now.trees 0 ≡ []
   pub unmarked : s.now.trees 2 ≡ []
 

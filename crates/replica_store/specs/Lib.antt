@@ -7,3 +7,4 @@ pub mod Reading
 pub mod Steps
 pub mod Loading
 pub mod Durable
+pub mod Causes

@@ -1,8 +1,9 @@
 //! Commits changes of rows and a cursor, in one transaction.
 
-ghost use Rattle.std.specs.Prelude.{◌≡◌, ◌<◌, ◌^◌, pos, IfOk};
+ghost use Rattle.std.specs.Prelude.{◌≡◌, ◌<◌, ◌≤◌, ◌^◌, pos, None, Some, IfOk, OnErr};
 ghost use Rattle.sqlite.specs.Held.{state};
 ghost use Rattle.sqlite.specs.State.{Survives};
+ghost use Rattle.replica_store.specs.Causes.{CannotCommit, CannotMake, ErrorHasCause, UsesIds};
 ghost use Rattle.replica_store.specs.Changes.{row_body, AfterChange, AfterChanges, Commits};
 ghost use Rattle.replica_store.specs.Inside.{WithoutRow, WithBody};
 ghost use Rattle.replica_store.specs.Inside.{IsInside, ChangesRows, SetsCursor};
@@ -25,10 +26,15 @@ pub(crate) fn commit_once<S: Alter>(
         (state S.Store conn.old) (state S.Store conn.new) }
     ensures crash { Survives (state S.Store conn.old) (state S.Store conn.new)
         (Commits changes.now cursor (state S.Store conn.old).committed.trees) }
+    ensures cause { ErrorHasCause result
+        (CannotCommit changes.now (state S.Store conn.old).committed.trees)
+        (state S.Store conn.old) (state S.Store conn.new) }
 {
     if !conn.is_autocommit() {
         return Err(Error::SqliteFailure(ErrorCode::TransactionState));
     }
+    // for its clause that what the tables have obeys the schema
+    let _schema = conn.schema();
     let mut tx = conn.transaction();
     change_all(&mut tx, changes)?;
     set_cursor(&mut tx, cursor)?;
@@ -41,6 +47,9 @@ fn change_all<S: Alter>(tx: &mut Transaction<'_, S>, changes: &[RowChange]) -> R
     ensures changes { Makes result (ChangesRows (AfterChanges changes.now))
         (state S.Store tx.old.conn.now) (state S.Store tx.new.conn.now) }
     ensures survives { AddsNone (state S.Store tx.old.conn.now) (state S.Store tx.new.conn.now) }
+    ensures cause { ErrorHasCause result
+        (CannotCommit changes.now (state S.Store tx.old.conn.now).now.trees)
+        (state S.Store tx.old.conn.now) (state S.Store tx.new.conn.now) }
 {
     for change in changes {
         change_one(tx, change)?;
@@ -54,6 +63,11 @@ fn change_one<S: Alter>(tx: &mut Transaction<'_, S>, change: &RowChange) -> Resu
     ensures changes { Makes result (ChangesRows (AfterChange change.now))
         (state S.Store tx.old.conn.now) (state S.Store tx.new.conn.now) }
     ensures survives { AddsNone (state S.Store tx.old.conn.now) (state S.Store tx.new.conn.now) }
+    ensures ids { Makes result (UsesIds 1)
+        (state S.Store tx.old.conn.now) (state S.Store tx.new.conn.now) }
+    ensures cause { ErrorHasCause result
+        (CannotMake change.now (state S.Store tx.old.conn.now).now.trees)
+        (state S.Store tx.old.conn.now) (state S.Store tx.new.conn.now) }
 {
     match &change.1 {
         Some(row) => upsert_row(tx, &change.0, row),
@@ -68,6 +82,11 @@ fn upsert_row<S: Alter>(tx: &mut Transaction<'_, S>, key: &RowKey, row: &Row) ->
     ensures puts { Makes result (ChangesRows (WithBody key.now (row_body row.now)))
         (state S.Store tx.old.conn.now) (state S.Store tx.new.conn.now) }
     ensures survives { AddsNone (state S.Store tx.old.conn.now) (state S.Store tx.new.conn.now) }
+    ensures ids { Makes result (UsesIds 1)
+        (state S.Store tx.old.conn.now) (state S.Store tx.new.conn.now) }
+    ensures cause { ErrorHasCause result
+        (CannotMake (key.now, Some row.now) (state S.Store tx.old.conn.now).now.trees)
+        (state S.Store tx.old.conn.now) (state S.Store tx.new.conn.now) }
 {
     let table = table_number(key)?;
     let bytes: &[u8] = &key.bytes;
@@ -91,6 +110,11 @@ fn delete_row<S: Alter>(tx: &mut Transaction<'_, S>, key: &RowKey) -> Result<(),
     ensures deletes { Makes result (ChangesRows (WithoutRow key.now))
         (state S.Store tx.old.conn.now) (state S.Store tx.new.conn.now) }
     ensures survives { AddsNone (state S.Store tx.old.conn.now) (state S.Store tx.new.conn.now) }
+    ensures ids { Makes result (UsesIds 1)
+        (state S.Store tx.old.conn.now) (state S.Store tx.new.conn.now) }
+    ensures cause { ErrorHasCause result
+        (CannotMake (key.now, None) (state S.Store tx.old.conn.now).now.trees)
+        (state S.Store tx.old.conn.now) (state S.Store tx.new.conn.now) }
 {
     let table = table_number(key)?;
     let bytes: &[u8] = &key.bytes;
@@ -103,7 +127,8 @@ fn delete_row<S: Alter>(tx: &mut Transaction<'_, S>, key: &RowKey) -> Result<(),
 
 // the table's number, if SQLite can store it
 fn table_number(key: &RowKey) -> Result<i64, Error>
-    ensures { IfOk result (λ n. n ≡ pos key.now.table) }
+    ensures is { IfOk result (λ n. n ≡ pos key.now.table) }
+    ensures far { OnErr result (2 ^ 63 ≤ key.now.table) }
 {
     i64::try_from(key.table).map_err(|_| Error::SqliteFailure(ErrorCode::IntegerOverflow))
 }
@@ -115,6 +140,8 @@ fn set_cursor<S: Alter>(tx: &mut Transaction<'_, S>, cursor: u64) -> Result<usiz
     ensures sets { Makes result (SetsCursor cursor)
         (state S.Store tx.old.conn.now) (state S.Store tx.new.conn.now) }
     ensures survives { AddsNone (state S.Store tx.old.conn.now) (state S.Store tx.new.conn.now) }
+    ensures cause { ErrorHasCause result ⊥
+        (state S.Store tx.old.conn.now) (state S.Store tx.new.conn.now) }
 {
     tx.execute("UPDATE rb_mark SET place = ?1", params![cursor as i64])
 }

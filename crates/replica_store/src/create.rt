@@ -1,8 +1,9 @@
 //! Makes a replica's tables in a database without tables, in one transaction.
 
-ghost use Rattle.std.specs.Prelude.{◌≡◌, [], IsTrue, OnOk};
+ghost use Rattle.std.specs.Prelude.{◌≡◌, ◌↔◌, [], false, IsTrue, OnOk};
 ghost use Rattle.sqlite.specs.{Held.{state}, State.{Survives}};
 ghost use Rattle.replica_store.specs.{
+  Causes.{CannotCreate, ErrorHasCause},
   Inside.{IsBlankInside, IsNewInside},
   Layout.{empty_schema},
   Picture.{IsNewReplica},
@@ -18,6 +19,8 @@ pub(crate) fn create_once<S: Alter>(conn: &mut Connection<S>) -> Result<(), Erro
     ensures made { Reaches result HoldsNew (state S.Store conn.new) }
     ensures stands { Reaches result LeavesCommitted (state S.Store conn.new) }
     ensures survives { Survives (state S.Store conn.old) (state S.Store conn.new) IsNewReplica }
+    ensures cause { ErrorHasCause result (CannotCreate (state S.Store conn.old))
+        (state S.Store conn.old) (state S.Store conn.new) }
 {
     if !conn.is_autocommit() {
         return Err(Error::SqliteFailure(ErrorCode::TransactionState));
@@ -32,7 +35,7 @@ pub(crate) fn create_once<S: Alter>(conn: &mut Connection<S>) -> Result<(), Erro
 
 // whether the schema has no table, index or view
 fn has_nothing(schema: &Schema) -> bool
-    ensures { IsTrue result → schema.now ≡ empty_schema }
+    ensures { IsTrue result ↔ schema.now ≡ empty_schema }
 {
     schema.tables.is_empty() && schema.indexes.is_empty() && schema.views.is_empty()
 }
@@ -43,6 +46,8 @@ fn make_all<S: Alter>(tx: &mut Transaction<'_, S>) -> Result<(), Error>
     ensures same_reference { tx.new.conn.ghost_name ≡ tx.old.conn.ghost_name }
     ensures made { Reaches result IsNewInside (state S.Store tx.new.conn.now) }
     ensures survives { AddsNone (state S.Store tx.old.conn.now) (state S.Store tx.new.conn.now) }
+    ensures cause { ErrorHasCause result ((state S.Store tx.old.conn.now).is_open ≡ false)
+        (state S.Store tx.old.conn.now) (state S.Store tx.new.conn.now) }
 {
     tx.execute(
         "CREATE TABLE rb_row(tab INTEGER NOT NULL, rowkey BLOB NOT NULL, body BLOB NOT NULL, \

@@ -1,7 +1,7 @@
 //! A replica keeps a subscription's rows and cursor over a crash.
 
 ghost use Rattle.sqlite.specs.Held.{state};
-ghost use Rattle.replica_store.specs.Durable.{KeepsRows, LeavesEither};
+ghost use Rattle.replica_store.specs.Durable.{FailsToKeep, KeepsRows, LeavesEither};
 
 use crate::error::ReplicaError;
 use crate::laws::tables_follow;
@@ -15,7 +15,8 @@ impl<S: Alter> DurableRows for Replica<S> {
     ghost leaves = { λ r first at second later.
         LeavesEither (state S.Store r.conn) first at second later };
 
-    ghost failed = { λ _. Unit {0} };
+    ghost failed = { λ old changes cursor new why.
+        FailsToKeep (state S.Store old.conn) changes cursor (state S.Store new.conn) why };
 
     type Error = ReplicaError;
 

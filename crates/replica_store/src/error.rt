@@ -11,9 +11,9 @@ use thiserror::Error;
 /// Why a replica can't be created, opened, read or changed.
 #[derive(Clone, Copy, Debug, PartialEq, Eq, Error)]
 pub enum ReplicaError {
-    /// Any call: the database refused or failed. After `commit` the rows and the cursor are those
-    /// before the call or those after it, both together; open the replica again to find out which.
-    /// The other calls did not change them.
+    /// Any call: the database refused or failed. The clause `cause` of each call says why it may.
+    /// After `commit` the rows and the cursor are those before the call or those after it, both
+    /// together; open the replica again to find out which. The other calls did not change them.
     #[error("the database refused or failed")]
     Store,
     /// `open`, `cursor` and `load`: what is stored is not a replica of this schema.

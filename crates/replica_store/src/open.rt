@@ -1,9 +1,10 @@
 //! Tests that a database is a replica's. No statement writes.
 
-ghost use Rattle.std.specs.Prelude.{◌≡◌, ◌↔◌, ℕ, IsTrue, IfOk, OnOk, Err};
+ghost use Rattle.std.specs.Prelude.{◌≡◌, ◌↔◌, ℕ, false, IsTrue, IfOk, OnOk, Err};
 ghost use Rattle.std.specs.List.{list_all};
 ghost use Rattle.sqlite.specs.Held.{state, Serves};
 ghost use Rattle.sqlite.specs.State.{HasCleanDisk, IsUnchanged};
+ghost use Rattle.replica_store.specs.Causes.{CannotBegin, StoreHasCause};
 ghost use Rattle.replica_store.specs.Layout.{replica_schema};
 ghost use Rattle.replica_store.specs.Picture.{HasCursor, HoldsReplica, IsReplica};
 ghost use Rattle.replica_store.specs.Reading.{AreRowRecords, HasTableColumns, is_shown_record};
@@ -43,6 +44,8 @@ pub(crate) fn check<S: Alter>(conn: &mut Connection<S>) -> Result<(), ReplicaErr
     ensures unusable { HasCleanDisk (state S.Store conn.new) → result ≡ Err Unusable
         → conn.old.schema ≡ replica_schema → IsReplica (state S.Store conn.old).now.trees → ⊥ }
     ensures survives { AddsNone (state S.Store conn.old) (state S.Store conn.new) }
+    ensures cause { StoreHasCause result (CannotBegin (state S.Store conn.old))
+        (state S.Store conn.old) (state S.Store conn.new) }
 {
     if !conn.is_autocommit() {
         return Err(ReplicaError::Store);
@@ -65,6 +68,8 @@ fn is_replica<S: Alter>(conn: &mut Connection<S>) -> Result<bool, ReplicaError>
     ensures same { Makes result IsUnchanged (state S.Store conn.old) (state S.Store conn.new) }
     ensures named { result ≡ Err Unusable → ⊥ }
     ensures survives { AddsNone (state S.Store conn.old) (state S.Store conn.new) }
+    ensures cause { StoreHasCause result ((state S.Store conn.old).is_open ≡ false)
+        (state S.Store conn.old) (state S.Store conn.new) }
 {
     let records = has_records(conn)?;
     let mark = has_mark(conn)?;
@@ -80,6 +85,8 @@ fn has_records<S: Alter>(conn: &mut Connection<S>) -> Result<bool, ReplicaError>
     ensures same { Makes result IsUnchanged (state S.Store conn.old) (state S.Store conn.new) }
     ensures named { result ≡ Err Unusable → ⊥ }
     ensures survives { AddsNone (state S.Store conn.old) (state S.Store conn.new) }
+    ensures cause { StoreHasCause result ((state S.Store conn.old).is_open ≡ false)
+        (state S.Store conn.old) (state S.Store conn.new) }
 {
     let rows = reported(stored_rows(conn))?;
     Ok(are_records(&rows))
@@ -106,6 +113,8 @@ fn has_mark<S: Alter>(conn: &mut Connection<S>) -> Result<bool, ReplicaError>
     ensures same { Makes result IsUnchanged (state S.Store conn.old) (state S.Store conn.new) }
     ensures named { result ≡ Err Unusable → ⊥ }
     ensures survives { AddsNone (state S.Store conn.old) (state S.Store conn.new) }
+    ensures cause { StoreHasCause result ((state S.Store conn.old).is_open ≡ false)
+        (state S.Store conn.old) (state S.Store conn.new) }
 {
     let marks = reported(stored_marks(conn))?;
     Ok(only_mark(&marks).is_some())

@@ -1,10 +1,11 @@
 //! Reads a replica's tables: two queries, and the values of a row of an answer.
 
-ghost use Rattle.std.specs.Prelude.{◌≡◌, ℕ, List, pos, MatchOption};
+ghost use Rattle.std.specs.Prelude.{◌≡◌, ℕ, List, false, pos, MatchOption};
 ghost use Rattle.sqlite.specs.Held.{state};
 ghost use Rattle.sqlite.specs.State.{HasCleanDisk};
 ghost use Rattle.sqlite_value.specs.Order.{column};
 ghost use Rattle.sqlite_value.specs.declared.value.Value.TheVariants.{Int, Blob};
+ghost use Rattle.replica_store.specs.Causes.{ErrorHasCause};
 ghost use Rattle.replica_store.specs.Layout.{replica_schema};
 ghost use Rattle.replica_store.specs.Reading.{shown_row, shown_mark, IsMarkAnswer};
 ghost use Rattle.replica_store.specs.Reading.{is_natural, is_blob_value};
@@ -16,7 +17,10 @@ use sqlite::{Alter, Connection, Error, Row};
 /// All rows, each as its table's number, its key and its body.
 pub(crate) fn stored_rows<S: Alter>(conn: &mut Connection<S>) -> Result<Vec<Row>, Error>
     requires { HasCleanDisk (state S.Store conn.old) → conn.old.schema ≡ replica_schema }
-    ensures { ListsTree shown_row 0 result (state S.Store conn.old) (state S.Store conn.new) }
+    ensures lists { ListsTree shown_row 0 result
+        (state S.Store conn.old) (state S.Store conn.new) }
+    ensures cause { ErrorHasCause result ((state S.Store conn.old).is_open ≡ false)
+        (state S.Store conn.old) (state S.Store conn.new) }
 {
     conn.query_all("SELECT tab, rowkey, body FROM rb_row", &[])
 }
@@ -24,7 +28,10 @@ pub(crate) fn stored_rows<S: Alter>(conn: &mut Connection<S>) -> Result<Vec<Row>
 /// All marks, each as its id and its place.
 pub(crate) fn stored_marks<S: Alter>(conn: &mut Connection<S>) -> Result<Vec<Row>, Error>
     requires { HasCleanDisk (state S.Store conn.old) → conn.old.schema ≡ replica_schema }
-    ensures { ListsTree shown_mark 2 result (state S.Store conn.old) (state S.Store conn.new) }
+    ensures lists { ListsTree shown_mark 2 result
+        (state S.Store conn.old) (state S.Store conn.new) }
+    ensures cause { ErrorHasCause result ((state S.Store conn.old).is_open ≡ false)
+        (state S.Store conn.old) (state S.Store conn.new) }
 {
     conn.query_all("SELECT id, place FROM rb_mark", &[])
 }

@@ -9,6 +9,7 @@ ghost use Rattle.sqlite.specs.{
   Tree.{Trees},
 };
 ghost use Rattle.replica_store.specs.{
+  Causes.{CannotBegin, CannotCommit, CannotCreate, HasStoreCause, StoreHasCause},
   Changes.{Commits},
   Layout.{empty_schema, replica_schema},
   Durable.{KeepsRows},
@@ -24,7 +25,7 @@ ghost use Rattle.replica_store.specs.{
     HoldsNew,
     ReadsReplica,
   },
-  declared.error.ReplicaError.TheVariants.{Unusable},
+  declared.error.ReplicaError.TheVariants.{Store, Unusable},
 };
 
 use crate::commit::commit_once;
@@ -80,6 +81,9 @@ impl<S: Alter + Drop> Replica<S> {
         ensures named { IfErr result (λ refused. refused.why ≢ Unusable) }
         ensures refused { IfErr result (λ refused.
             Survives (state S.Store conn) (state S.Store refused.conn) IsNewReplica) }
+        ensures cause { IfErr result (λ refused. HasCleanDisk (state S.Store refused.conn)
+            → refused.why ≡ Store → HasStoreCause (CannotCreate (state S.Store conn))
+            (state S.Store conn) (state S.Store refused.conn)) }
     {
         match reported(create_once(&mut conn)) {
             Ok(()) => Ok(Replica { conn, schema }),
@@ -87,8 +91,9 @@ impl<S: Alter + Drop> Replica<S> {
         }
     }
 
-    /// Opens the replica that a database holds. No statement writes. Answers `Unusable` if the
-    /// database's tables or its mark aren't those of a replica; `load` tests the rows' bodies.
+    /// Opens the replica that a database holds. No statement writes. Answers `Store` if a
+    /// transaction is open, and `Unusable` if the database's tables or its mark aren't those of a
+    /// replica; `load` tests the rows' bodies.
     pub fn open(
         conn: Connection<S>,
         schema: Arc<Schema>,
@@ -104,6 +109,9 @@ impl<S: Alter + Drop> Replica<S> {
         ensures unusable { IfErr result (λ refused. HasCleanDisk (state S.Store refused.conn)
             → refused.why ≡ Unusable → conn.schema ≡ replica_schema
             → IsReplica (state S.Store conn).now.trees → ⊥) }
+        ensures cause { IfErr result (λ refused. HasCleanDisk (state S.Store refused.conn)
+            → refused.why ≡ Store → HasStoreCause (CannotBegin (state S.Store conn))
+            (state S.Store conn) (state S.Store refused.conn)) }
     {
         let mut conn = with_columns(conn);
         match check(&mut conn) {
@@ -130,6 +138,9 @@ impl<S: Alter> Replica<S> {
         ensures survives { Survives (state S.Store self.old.conn) (state S.Store self.new.conn)
             (Commits changes.now cursor (state S.Store self.old.conn).committed.trees) }
         ensures named { IfErr result (λ e. e ≢ Unusable) }
+        ensures cause { StoreHasCause result
+            (CannotCommit changes.now (state S.Store self.old.conn).committed.trees)
+            (state S.Store self.old.conn) (state S.Store self.new.conn) }
         ensures same_schema { self.new.schema ≡ self.old.schema }
     {
         reported(commit_once(&mut self.conn, changes, cursor))
@@ -144,6 +155,8 @@ impl<S: Alter> Replica<S> {
             (state S.Store self.old.conn) (state S.Store self.new.conn) }
         ensures held { Reaches result HoldsReplica (state S.Store self.new.conn) }
         ensures usable { HasCleanDisk (state S.Store self.new.conn) → result ≡ Err Unusable → ⊥ }
+        ensures cause { StoreHasCause result ⊥
+            (state S.Store self.old.conn) (state S.Store self.new.conn) }
         ensures survives { AddsNone (state S.Store self.old.conn) (state S.Store self.new.conn) }
         ensures same_schema { self.new.schema ≡ self.old.schema }
     {
@@ -173,6 +186,8 @@ impl<S: Alter> Replica<S> {
             (state S.Store self.old.conn) (state S.Store self.new.conn) }
         ensures held { Reaches result HoldsReplica (state S.Store self.new.conn) }
         ensures survives { AddsNone (state S.Store self.old.conn) (state S.Store self.new.conn) }
+        ensures cause { StoreHasCause result ⊥
+            (state S.Store self.old.conn) (state S.Store self.new.conn) }
         ensures keeps { IfOk result (λ r. KeepsRows (state S.Store self.new.conn) r.0.rows r.1) }
         ensures same_schema { self.new.schema ≡ self.old.schema }
     {
@@ -193,6 +208,8 @@ impl<S: Alter> Replica<S> {
             → AreSchemaRows (arc_value self.old.schema)
             (Stores (state S.Store self.old.conn).committed.trees) → ⊥ }
         ensures reads { ReadsReplica result
+            (state S.Store self.old.conn) (state S.Store self.new.conn) }
+        ensures cause { StoreHasCause result ⊥
             (state S.Store self.old.conn) (state S.Store self.new.conn) }
         ensures same_schema { self.new.schema ≡ self.old.schema }
     {

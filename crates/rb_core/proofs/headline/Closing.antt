@@ -41,26 +41,27 @@ nothing_placed old mids new last closed leads =
 
 -- ---- a subscription
 
-record LeftParts (accepted : List Entry) (rows : tables.TableState) (mark : Bool) (entries : List Entry)
+record LeftParts (was : Subscriber) (mark : Bool) (entries : List Entry) (parts : List (List Entry))
     (now : tables.TableState) : Type 0 where
   closed : mark ≡ true
-  accepted_same : entries ≡ accepted
-  tables_same : now ≡ rows
+  accepted_same : entries ≡ was.accepted
+  batches_same : parts ≡ was.batches
+  tables_same : now ≡ was.tables
 
--- one that is closed, and has these entries and tables; one that differs from it in other parts has them too, by
--- computing
-abbrev HasLeft : List Entry → tables.TableState → Subscriber → Type 0
-HasLeft accepted rows q = LeftParts accepted rows q.closed q.accepted q.tables
+-- One that is closed, and has the entries, batches and tables of this one. One that differs from it in other parts has
+-- them too, by computing.
+abbrev HasLeft : Subscriber → Subscriber → Type 0
+HasLeft was q = LeftParts was q.closed q.accepted q.batches q.tables
 
-abbrev Left : ℕ → List Entry → tables.TableState → World → Type 0
-Left s accepted rows world = (q : Subscriber) × (slice_get world.subscribers s ≡ Some q) × HasLeft accepted rows q
+abbrev Left : ℕ → Subscriber → World → Type 0
+Left s was world = (q : Subscriber) × (slice_get world.subscribers s ≡ Some q) × HasLeft was q
 
 -- one subscription becomes another, and stays closed where it is closed
-becomes : (s : ℕ) (accepted : List Entry) (rows : tables.TableState) (old : World) (at : ℕ) (q r : Subscriber)
-    → slice_get old.subscribers at ≡ Some q → (HasLeft accepted rows q → HasLeft accepted rows r)
-    → Left s accepted rows old → Left s accepted rows (with_subscriber old at r)
-becomes s accepted rows old at q r found stays h =
-    elim (eqb_tells at s) as (λ w. Left s accepted rows (with_subscriber old at r)) [
+becomes : (s : ℕ) (was : Subscriber) (old : World) (at : ℕ) (q r : Subscriber)
+    → slice_get old.subscribers at ≡ Some q → (HasLeft was q → HasLeft was r)
+    → Left s was old → Left s was (with_subscriber old at r)
+becomes s was old at q r found stays h =
+    elim (eqb_tells at s) as (λ w. Left s was (with_subscriber old at r)) [
       | inl is ↦
           let found_here : slice_get old.subscribers s ≡ Some q =
           subst (λ n. slice_get old.subscribers n ≡ Some q) is.1 found in
@@ -68,42 +69,55 @@ becomes s accepted rows old at q r found stays h =
             r,
             subst (λ n. slice_get (slice_set old.subscribers at r) n ≡ Some r) is.1
                 (get_set old.subscribers at q r found),
-            stays (subst (HasLeft accepted rows) same h.2),
+            stays (subst (HasLeft was) same h.2),
           )
       | inr other ↦ (h.0, get_set_other old.subscribers at s r (λ e. other.1 (sym e)) ∙ h.1, h.2)
     ]
 
-left_kept : (s : ℕ) (accepted : List Entry) (rows : tables.TableState) → MovingKeeps (Left s accepted rows)
-left_kept s accepted rows = record {
-  sending = apart_from_sending (Left s accepted rows) (λ old senders intake hand h. h);
-  places = λ old new move h. subst (Left s accepted rows) (sym move.kept) h;
-  closes = λ old new move h. subst (Left s accepted rows) (sym move.kept) h;
-  subscribes = λ old new move h. subst (Left s accepted rows) (sym move.kept)
+left_kept : (s : ℕ) (was : Subscriber) → MovingKeeps (Left s was)
+left_kept s was = record {
+  sending = apart_from_sending (Left s was) (λ old senders intake hand h. h);
+  places = λ old new move h. subst (Left s was) (sym move.kept) h;
+  closes = λ old new move h. subst (Left s was) (sym move.kept) h;
+  subscribes = λ old new move h. subst (Left s was) (sym move.kept)
       (h.0, get_push old.subscribers _ h.0 s h.1, h.2);
-  delivers = λ old new move h. subst (Left s accepted rows) (sym move.kept)
-      (becomes s accepted rows old move.s move.subscriber _ move.found (λ left. left) h);
-  accepts = λ old new move h. subst (Left s accepted rows) (sym move.kept)
-      (becomes s accepted rows old move.made.s move.made.subscriber _ move.made.found
+  delivers = λ old new move h. subst (Left s was) (sym move.kept)
+      (becomes s was old move.s move.subscriber _ move.found (λ left. left) h);
+  accepts = λ old new move h. subst (Left s was) (sym move.kept)
+      (becomes s was old move.made.s move.made.subscriber _ move.made.found
       (λ left. absurd (cc (sym left.closed ∙ move.made.accepts.not_closed))) h);
-  reconnects = λ old new move h. subst (Left s accepted rows) (sym move.kept)
-      (becomes s accepted rows old move.s move.subscriber _ move.found (λ left. left) h);
-  unsubscribes = λ old new move h. subst (Left s accepted rows) (sym move.kept)
-      (becomes s accepted rows old move.s move.subscriber _ move.found
-      (λ left. record { closed = refl; accepted_same = left.accepted_same; tables_same = left.tables_same }) h);
-  withdraws = λ old new move h. subst (Left s accepted rows) (sym move.kept) h;
+  reconnects = λ old new move h. subst (Left s was) (sym move.kept)
+      (becomes s was old move.s move.subscriber _ move.found (λ left. left) h);
+  unsubscribes = λ old new move h. subst (Left s was) (sym move.kept)
+      (becomes s was old move.s move.subscriber _ move.found
+      (λ left. record {
+        closed = refl;
+        accepted_same = left.accepted_same;
+        batches_same = left.batches_same;
+        tables_same = left.tables_same;
+      }) h);
+  withdraws = λ old new move h. subst (Left s was) (sym move.kept) h;
   crashes = λ old new move h.
-      crash_leaves (Left s accepted rows) old new move
-      (becomes s accepted rows old move.made.s move.made.subscriber _ move.made.found (λ left. left) h)
-      (becomes s accepted rows old move.made.s move.made.subscriber _ move.made.found
+      crash_leaves (Left s was) old new move
+      (becomes s was old move.made.s move.made.subscriber _ move.made.found (λ left. left) h)
+      (becomes s was old move.made.s move.made.subscriber _ move.made.found
       (λ left. absurd (cc (sym left.closed ∙ move.made.accepts.not_closed))) h);
-  resumes = λ old new move h. subst (Left s accepted rows) (sym move.kept)
-      (becomes s accepted rows old move.s move.subscriber _ move.found (λ left. left) h);
+  resumes = λ old new move h. subst (Left s was) (sym move.kept)
+      (becomes s was old move.s move.subscriber _ move.found (λ left. left) h);
 }
 
 pub nothing_accepted : (old : World) (mids : List World) (new : World) (s : ℕ) (q : Subscriber)
     → slice_get old.subscribers s ≡ Some q → q.closed ≡ true → Leads old mids new
     → (r : Subscriber) × (slice_get new.subscribers s ≡ Some r) × StaysClosed q r
 nothing_accepted old mids new s q found closed leads =
-    let h = kept_through (Left s q.accepted q.tables) (left_kept s q.accepted q.tables) old mids new leads
-    (q, found, record { closed = closed; accepted_same = refl; tables_same = refl }) in
-    (h.0, h.1, record { closed = h.2.closed; accepted = h.2.accepted_same; tables = h.2.tables_same })
+    let h = kept_through (Left s q) (left_kept s q) old mids new leads
+    (q, found, record { closed = closed; accepted_same = refl; batches_same = refl; tables_same = refl }) in (
+      h.0,
+      h.1,
+      record {
+        closed = h.2.closed;
+        accepted = h.2.accepted_same;
+        batches = h.2.batches_same;
+        tables = h.2.tables_same;
+      },
+    )

@@ -12,8 +12,8 @@ use Rattle.rb_subscriber.specs.Accept.{part}
 use Rattle.rb_subscriber.proofs.runs.RunLaws.{parts, part_stays}
 use Rattle.rb_core.specs.World.{Subscriber, World, world_begun, cursor, subscriber_begun}
 use Rattle.rb_core.specs.Moves.{Acceptance, after_acceptance, with_subscriber, Leads}
-use Rattle.rb_core.proofs.headline.Moving.{all_set, all_get, all_moved_in, all_map, apart_from_sending, MovingKeeps}
-use Rattle.rb_core.proofs.headline.Moving.{crash_leaves, kept_through}
+use Rattle.rb_core.proofs.headline.Moving.{all_get, all_moved_in, all_map, apart_from_sending, MovingKeeps}
+use Rattle.rb_core.proofs.headline.Moving.{all_become, crash_leaves, kept_through}
 
 -- a delivery's numbers are placed
 abbrev GaplessIsPlaced : List Entry → Delivery → Type 0
@@ -101,9 +101,7 @@ acceptance_run old made h =
 -- one subscription becomes another
 gapless_becomes : (old : World) (s : ℕ) (q r : Subscriber) → AreRuns old → slice_get old.subscribers s ≡ Some q
     → (IsRun old.sequence q → IsRun old.sequence r) → AreRuns (with_subscriber old s r)
-gapless_becomes old s q r runs found same =
-    all_set (IsRun old.sequence) old.subscribers s r runs
-    (same (all_get (IsRun old.sequence) old.subscribers s q runs found))
+gapless_becomes old s q r runs found same = all_become (IsRun old.sequence) old s q r runs found same
 
 runs_kept : MovingKeeps AreRuns
 runs_kept = record {
@@ -132,7 +130,8 @@ runs_kept = record {
       (gapless_becomes old move.made.s move.made.subscriber (after_acceptance old move.made) runs move.made.found
       (acceptance_run old move.made));
   reconnects = λ old new move runs. subst AreRuns (sym move.kept)
-      (gapless_becomes old move.s move.subscriber (record move.subscriber { link = move.link }) runs move.found (λ h. h));
+      (gapless_becomes old move.s move.subscriber (record move.subscriber { link = move.link }) runs move.found
+      (λ h. h));
   unsubscribes = λ old new move runs. subst AreRuns (sym move.kept)
       (gapless_becomes old move.s move.subscriber (record move.subscriber { closed = true }) runs move.found (λ h. h));
   withdraws = λ old new move runs. subst AreRuns (sym move.kept) runs;

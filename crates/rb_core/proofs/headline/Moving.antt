@@ -4,7 +4,7 @@ use Rattle.std.proofs.Common.{subst}
 use Rattle.std.specs.Prelude.{slice_get, slice_set}
 use Rattle.std.specs.List.{AllByRecursion}
 use Rattle.rb_sequence.specs.Item.{Item}
-use Rattle.rb_core.specs.World.{Sender, World}
+use Rattle.rb_core.specs.World.{Sender, Subscriber, World}
 use Rattle.rb_core.specs.Moves.{IsIn, AddsPublisher, Streams, Sends, Pulls, Places, Closes, Subscribes, Delivers}
 use Rattle.rb_core.specs.Moves.{Accepts, Reconnects, Unsubscribes, Withdraws, Crashes, Resumes, Moves, Leads}
 use Rattle.rb_core.specs.Moves.{after_acceptance, with_subscriber}
@@ -104,6 +104,13 @@ crash_leaves P old new move before after = elim move.kept as (λ w. P new) [
   | inl is ↦ subst P (sym is) before
   | inr is ↦ subst P (sym is) after
 ]
+
+-- one subscription becomes another, of which holds what held of it; so it holds of all still
+pub all_become : (P : Subscriber → Type 0) (old : World) (s : ℕ) (q r : Subscriber)
+    → AllByRecursion P old.subscribers → slice_get old.subscribers s ≡ Some q → (P q → P r)
+    → AllByRecursion P (with_subscriber old s r).subscribers
+all_become P old s q r all found becomes =
+    all_set P old.subscribers s r all (becomes (all_get P old.subscribers s q all found))
 
 -- what every move keeps holds behind all of them
 pub kept_through : (P : World → Type 0) → MovingKeeps P → (old : World) (mids : List World) (new : World)

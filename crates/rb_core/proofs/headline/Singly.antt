@@ -15,7 +15,7 @@ use Rattle.rb_subscriber.specs.Endpoint.{Endpoint}
 use Rattle.rb_subscriber.proofs.runs.RunLaws.{RowsKeepColumns, joined_valid}
 use Rattle.rb_core.specs.World.{Subscriber, World, world_begun, endpoint_of}
 use Rattle.rb_core.specs.Moves.{with_subscriber, Leads}
-use Rattle.rb_core.proofs.headline.Moving.{all_set, all_get, apart_from_sending, MovingKeeps, crash_leaves}
+use Rattle.rb_core.proofs.headline.Moving.{all_become, all_get, apart_from_sending, MovingKeeps, crash_leaves}
 use Rattle.rb_core.proofs.headline.Moving.{kept_through}
 
 -- ---- the laws of endpoints
@@ -76,7 +76,8 @@ abbrev AreSingle : World → Type 0
 AreSingle world = AreChangesets world.sequence → AllByRecursion IsSingle world.subscribers
 
 abbrev with_brought : Subscriber → List Entry → tables.TableState → Subscriber
-with_brought q entries tables = record q { accepted = q.accepted ++ entries; tables = tables }
+with_brought q entries tables =
+    record q { accepted = q.accepted ++ entries; batches = q.batches ++ entries ∷ []; tables = tables }
 
 single_more : SinglyLaws → (q : Subscriber) (sequence : List Entry) (delivery : Delivery) (end : Endpoint)
     → AreChangesets sequence → AcceptsDelivery (endpoint_of q) sequence delivery end → IsSingle q
@@ -99,9 +100,7 @@ single_more laws q sequence delivery end valid accepts is =
 
 single_becomes : (old : World) (s : ℕ) (q r : Subscriber) → AreSingle old → slice_get old.subscribers s ≡ Some q
     → (AreChangesets old.sequence → IsSingle q → IsSingle r) → AreSingle (with_subscriber old s r)
-single_becomes old s q r h found becomes = λ valid.
-    all_set IsSingle old.subscribers s r (h valid)
-    (becomes valid (all_get IsSingle old.subscribers s q (h valid) found))
+single_becomes old s q r h found becomes = λ valid. all_become IsSingle old s q r (h valid) found (becomes valid)
 
 single_kept : SinglyLaws → MovingKeeps AreSingle
 single_kept laws = record {

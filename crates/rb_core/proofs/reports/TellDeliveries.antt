@@ -292,7 +292,11 @@ accepted_tells steps schema old world d delivery end (Ok after) is found known h
     let rows : r.tables ≡ after.tables = ap (say.if_applied q.tables) at.accepts.tables in
     let takes : Accepts world new = record {
       made = acceptance_of world delivery end after at;
-      kept = ap (λ t. with_subscriber world s (record q { accepted = q.accepted ++ entries; tables = t })) rows;
+      kept = ap (λ t. with_subscriber world s (record q {
+        accepted = q.accepted ++ entries;
+        batches = q.batches ++ entries ∷ [];
+        tables = t;
+      })) rows;
     } in
     let as_d : delivery_told d q ≡ Some delivery =
     subst (λ n. delivery_told n q ≡ Some delivery) known.numbered at.offered in

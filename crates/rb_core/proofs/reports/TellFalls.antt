@@ -1,5 +1,5 @@
 -- What is reported of subscriptions that fall while they accept a delivery, and that are resumed.
-use Rattle.std.proofs.Common.{◌≡◌, ℕ, inl, inr, Bool, true, false, cond, not, List, ◌∷◌, ◌++◌, Option}
+use Rattle.std.proofs.Common.{◌≡◌, ℕ, inl, inr, Bool, true, false, cond, not, List, [], ◌∷◌, ◌++◌, Option}
 use Rattle.std.proofs.Common.{Some, None, Result, Ok, Err, refl, ap, subst, ◌∙◌}
 use Rattle.std.specs.Prelude.{slice_get}
 use Rattle.cs_model.specs.declared.shape.Shape.{Shape}
@@ -71,6 +71,7 @@ fell_after schema old world d delivery end after at number h =
       made = acceptance_of world delivery end after at;
       kept = inr (ap (λ t. with_subscriber world s (record q {
         accepted = q.accepted ++ entries;
+        batches = q.batches ++ entries ∷ [];
         tables = t;
         fallen = true;
       })) rows);

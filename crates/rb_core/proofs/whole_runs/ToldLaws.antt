@@ -6,6 +6,7 @@ use Rattle.cs_model.specs.declared.shape.Shape.{Shape}
 use Rattle.cs_model.specs.Key.{row_key_cmp}
 use Rattle.cs_apply.specs.Columns.{HaveColumns}
 use Rattle.rb_subscriber.specs.Accept.{AreChangesets, HasSingleTables}
+use Rattle.rb_subscriber.specs.Batches.{HasBatchTables}
 use Rattle.rb_subscriber.specs.Endpoint.{Endpoint}
 use Rattle.rb_core.specs.Moves.{Leads, HasRun, StaysClosed}
 use Rattle.rb_core.specs.State.{State, empty_tables}
@@ -71,4 +72,21 @@ singly_run law schema new world s subscriber told found valid at =
       subst (λ t. HasSingleTables t subscriber.accepted subscriber.tables) base
           (law told.0.0 world s subscriber told.0.1 found valid
           (subst HaveColumns (sym base) (empty_have_columns schema))),
+    )
+
+-- a subscription of which the course says that its tables are those of its batches
+pub batched_run : ((mids : List World) (new : World) (s : ℕ) (subscriber : Subscriber) → Leads world_begun mids new
+    → slice_get new.subscribers s ≡ Some subscriber
+    → HasBatchTables subscriber.base subscriber.batches subscriber.accepted subscriber.tables)
+    → (schema : List Shape) (new : State) (world : World) (s : ℕ) (subscriber : Subscriber)
+    → IsTold schema world_begun new world → slice_get world.subscribers s ≡ Some subscriber
+    → slice_get new.endpoints s ≡ Some (endpoint_of subscriber)
+    → (end : Endpoint) × (slice_get new.endpoints s ≡ Some end)
+    × HasBatchTables (empty_tables schema) subscriber.batches subscriber.accepted end.tables
+batched_run law schema new world s subscriber told found at =
+    let base = all_get (BeginsEmpty schema) world.subscribers s subscriber told.1.subscriptions.bases found in (
+      endpoint_of subscriber,
+      at,
+      subst (λ t. HasBatchTables t subscriber.batches subscriber.accepted subscriber.tables) base
+          (law told.0.0 world s subscriber told.0.1 found),
     )

@@ -12,7 +12,7 @@ use Rattle.rb_broker.specs.Publishers.{PublisherView}
 use Rattle.rb_sequencer.specs.Turns.{SequencerState}
 use Rattle.rb_subscriber.specs.Accept.{HasSingleTables}
 use Rattle.rb_subscriber.specs.Shown.{entries_told}
-use Rattle.rb_subscriber.specs.Subscription.{SubscriptionState, cursor_of}
+use Rattle.rb_subscriber.specs.Subscription.{SubscriptionState}
 use Rattle.rb_close.specs.Finishing.{Finishes}
 use Rattle.rb_close.specs.Headline.{KeepsRunningHeadline, ShowsPlaced}
 use Rattle.rb_close.specs.Meeting.{HasMet}
@@ -36,12 +36,13 @@ FinishedKeepHeadline = (cells : Cells) (publishers : List PublisherView) (sequen
     → HasSingleTables subscription.base (entries_told subscription.told) subscription.tables
     → KeepsRunningHeadline cells publishers sequencer closing subscription
 
-abbrev pub HaveEnded : {L : Type 0} → SequencerState → List (EndedSubscriber L) → Type 0
-HaveEnded sequencer all = AllByRecursion (λ one. HasMetAndEnded sequencer one.subscription one.ending) all
+abbrev pub HaveEnded : {L : Type 0} → Cells → SequencerState → List (EndedSubscriber L) → Type 0
+HaveEnded cells sequencer all =
+    AllByRecursion (λ one. HasMetAndEnded cells sequencer one.subscription one.ending) all
 
 pub all_keep_headline : {L : Type 0} → FinishedKeepHeadline → (cells : Cells) (ps : List PublisherView)
     (q : SequencerState) (placed : ℕ) (left : List Item) (closing : LastToken) (all : List (EndedSubscriber L))
-    → ShowsPlaced cells q → Finishes cells ps q placed left closing → HaveEnded q all
+    → ShowsPlaced cells q → Finishes cells ps q placed left closing → HaveEnded cells q all
     → AllByRecursion (KeepsRunningHeadline cells ps q closing) (map (λ one. one.subscription) (map subscriber_of all))
 all_keep_headline law cells ps q placed left closing [] shows finishes met = tt
 all_keep_headline law cells ps q placed left closing (a ∷ all) shows finishes met = (
@@ -49,12 +50,13 @@ all_keep_headline law cells ps q placed left closing (a ∷ all) shows finishes 
   all_keep_headline law cells ps q placed left closing all shows finishes met.1,
 )
 
-pub all_have_ended : {L : Type 0} (q : SequencerState) (placed : ℕ) (all : List (EndedSubscriber L))
-    → placed ≡ length q.placed → HaveEnded q all → AllByRecursion (IsEnded placed) (map subscriber_of all)
-all_have_ended q placed [] many met = tt
-all_have_ended q placed (a ∷ all) many met = (
-  subst (λ n. IsEndAt n a.ending (cursor_of a.subscription)) (sym many) met.0.1,
-  all_have_ended q placed all many met.1,
+pub all_have_ended : {L : Type 0} (cells : Cells) (q : SequencerState) (placed : ℕ) (all : List (EndedSubscriber L))
+    → placed ≡ length q.placed → HaveEnded cells q all
+    → AllByRecursion (IsEnded cells placed) (map subscriber_of all)
+all_have_ended cells q placed [] many met = tt
+all_have_ended cells q placed (a ∷ all) many met = (
+  subst (λ n. IsEndAt cells n a.subscription a.ending) (sym many) met.0.1,
+  all_have_ended cells q placed all many met.1,
 )
 
 -- ---- where subscriptions begin

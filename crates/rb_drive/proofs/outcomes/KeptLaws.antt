@@ -11,7 +11,7 @@ use Rattle.rb_subscriber.specs.Subscription.{SubscriptionState, cursor_of, new_s
 use Rattle.rb_subscriber.specs.declared.refusal.AcceptRefusal.{AcceptRefusal}
 use Rattle.rb_subscriber.specs.declared.refusal.AcceptRefusal.TheVariants as refusal
 use Rattle.rb_subscriber.specs.declared.refusal.SubscriptionError.{SubscriptionError}
-use Rattle.rb_subscriber.specs.declared.refusal.SubscriptionError.TheVariants.{Memory, Refused, Unseen}
+use Rattle.rb_subscriber.specs.declared.refusal.SubscriptionError.TheVariants.{Memory, Refused, RefusedEntries, Unseen}
 use Rattle.replica_store.specs.Durable.{KeepsRows}
 use Rattle.sqlite.specs.State.{State}
 use Rattle.rb_drive.specs.Kept.{KeepsSubscription}
@@ -26,14 +26,15 @@ falls_not cells delivery old new falls none =
 same_unless_fallen : (cells : Cells) (delivery : Delivery) (why : SubscriptionError) (old new : SubscriptionState)
     → KeptAnswers cells delivery (Err why) old new → new.pending ≡ None → new ≡ old
 same_unless_fallen cells delivery (Refused refusal.Store) old new h none = absurd (falls_not cells delivery old new h none)
-same_unless_fallen cells delivery (Refused refusal.Closed) old new h none = h.0
-same_unless_fallen cells delivery (Refused refusal.StaleLink) old new h none = h.0
-same_unless_fallen cells delivery (Refused refusal.Seen) old new h none = h.0
-same_unless_fallen cells delivery (Refused (refusal.Gap n)) old new h none = h.0
-same_unless_fallen cells delivery (Refused (refusal.Shape n)) old new h none = h.0
-same_unless_fallen cells delivery (Refused (refusal.Conflict c)) old new h none = h.0
-same_unless_fallen cells delivery (Unseen n) old new h none = h.0
-same_unless_fallen cells delivery Memory old new h none = h.0
+same_unless_fallen cells delivery (Refused refusal.Closed) old new h none = absurd h
+same_unless_fallen cells delivery (Refused refusal.StaleLink) old new h none = absurd h
+same_unless_fallen cells delivery (Refused refusal.Seen) old new h none = absurd h
+same_unless_fallen cells delivery (Refused (refusal.Gap n)) old new h none = absurd h
+same_unless_fallen cells delivery (Refused (refusal.Shape n)) old new h none = absurd h
+same_unless_fallen cells delivery (Refused (refusal.Conflict c)) old new h none = absurd h
+same_unless_fallen cells delivery (RefusedEntries why shown) old new h none = h.0
+same_unless_fallen cells delivery (Unseen n shown) old new h none = h.0
+same_unless_fallen cells delivery (Memory shown) old new h none = h.0
 
 error_leaves : (refused : Option AcceptRefusal) (cells : Cells) (delivery : Delivery) (why : SubscriptionError)
     (old new : SubscriptionState) → durable_by refused cells delivery (Err why) old new → new.pending ≡ None → new ≡ old

@@ -1,10 +1,11 @@
 -- What the file of a durable subscription has after a restart.
-use Rattle.std.proofs.Common.{◌≡◌, ◌⊎◌, inl, inr, ℕ, suc, ◌+◌, List, [], ◌++◌, length, refl, sym, ap, subst, ◌∙◌}
+use Rattle.std.proofs.Common.{◌≡◌, ◌⊎◌, inl, inr, ℕ, suc, ◌+◌, List, [], ◌∷◌, ◌++◌, length, refl, sym, ap, subst, ◌∙◌}
 use Rattle.std.proofs.Common.{arith, IfSome, Option, Some, None, Result, Ok, Err, OnOk, OnErr}
 use Rattle.std.proofs.lemmas.List.{append-nil, length-append}
 use Rattle.cs_apply.specs.Single.{with_rows}
 use Rattle.cs_apply.specs.State.{Rows, TableState}
 use Rattle.cs_apply.specs.declared.conflict.Conflict.{Conflict}
+use Rattle.par_apply.specs.Durable.{changed_tables}
 use Rattle.par_apply.specs.RowChanges.{overlaid}
 use Rattle.sqlite.specs.State.{HasCleanDisk, State}
 use Rattle.sqlite.specs.Tree.{Trees}
@@ -12,14 +13,17 @@ use Rattle.replica_store.specs.Durable.{HasRows, KeepsRows, LeavesEither}
 use Rattle.rb_desk.specs.declared.delivery.Delivery.{Delivery}
 use Rattle.rb_sequence.specs.Cells.{AreInCells, Cells, CellToken}
 use Rattle.rb_subscriber.specs.Accept.{HasSingleTables, refusal_before}
+use Rattle.rb_subscriber.specs.AcceptShown.{told_since}
+use Rattle.rb_subscriber.specs.Batches.{HasBatchTables}
 use Rattle.rb_subscriber.specs.Durable.{DurableAnswers, IfFell, IsPendingOver, KeptAnswers, durable_by}
 use Rattle.rb_subscriber.specs.Shown.{ShowDelivery, entries_told}
-use Rattle.rb_subscriber.specs.Subscription.{PendingAccept, SubscriptionState, cursor_of, own_endpoint}
+use Rattle.rb_subscriber.specs.Subscription.{PendingAccept, SubscriptionState, batches_told, cursor_of, own_endpoint}
 use Rattle.rb_subscriber.specs.declared.refusal.AcceptRefusal.{AcceptRefusal}
 use Rattle.rb_subscriber.specs.declared.refusal.AcceptRefusal.TheVariants as refusal
 use Rattle.rb_subscriber.specs.declared.refusal.SubscriptionError.{SubscriptionError}
-use Rattle.rb_subscriber.specs.declared.refusal.SubscriptionError.TheVariants.{Memory, Refused, Unseen}
+use Rattle.rb_subscriber.specs.declared.refusal.SubscriptionError.TheVariants.{Memory, Refused, RefusedEntries, Unseen}
 use Rattle.rb_subscriber.proofs.accepting.AcceptLaws.{accepted_steps}
+use Rattle.rb_subscriber.proofs.accepting.ShownLaws.{batch_on}
 use Rattle.rb_subscriber.proofs.accepting.TokenLaws.{in_cells_append}
 use Rattle.rb_drive.specs.Restart.{HoldsRun}
 
@@ -29,7 +33,11 @@ use Rattle.rb_drive.specs.Restart.{HoldsRun}
 record AcceptsTokens (cells : Cells) (d : Delivery) (old new : SubscriptionState) : Type 0 where
   tokens : List CellToken
   shown : ShowDelivery cells d tokens
-  kept : new ≡ record old { told = old.told ++ tokens; tables = new.tables }
+  kept : new ≡ record old {
+    told = old.told ++ tokens;
+    batches = old.batches ++ tokens ∷ [];
+    tables = new.tables;
+  }
   rows_changed : new.tables ≡ record old.tables { rows = new.tables.rows }
 
 -- it fell, with the delivery's tokens pending
@@ -56,18 +64,20 @@ kept_ends : {Kept Unasked : Type 0} (cells : Cells) (d : Delivery) (r : Result �
     (old new : SubscriptionState) → KeptAnswers cells d r old new → OnOk r Kept → OnErr r Unasked
     → EndsAs cells d Kept Unasked old new
 kept_ends cells d (Ok cursor) old new answers kept unasked =
-    let accepts = accepted_steps (own_endpoint old) (entries_told answers.0) d (own_endpoint new) answers.2 in
+    let tokens = told_since old new in
+    let accepts = accepted_steps (own_endpoint old) (entries_told tokens) d (own_endpoint new) answers.1 in
     Accepts (record {
-      tokens = answers.0;
-      shown = answers.1;
-      kept = answers.4;
+      tokens = tokens;
+      shown = answers.0;
+      kept = answers.3;
       rows_changed = only_rows_change old.tables _ new.tables accepts.tables;
     }) kept
 kept_ends cells d (Err (Refused refusal.Store)) old new answers kept unasked =
     Falls (record { pending = answers.pending; shown = answers.shown; kept = answers.kept })
-kept_ends cells d (Err (Refused why)) old new answers kept unasked = Stays answers.0 unasked
-kept_ends cells d (Err (Unseen number)) old new answers kept unasked = Stays answers.0 unasked
-kept_ends cells d (Err Memory) old new answers kept unasked = Stays answers.0 unasked
+kept_ends cells d (Err (Refused why)) old new answers kept unasked = absurd answers
+kept_ends cells d (Err (RefusedEntries why shown)) old new answers kept unasked = Stays answers.0 unasked
+kept_ends cells d (Err (Unseen number shown)) old new answers kept unasked = Stays answers.0 unasked
+kept_ends cells d (Err (Memory shown)) old new answers kept unasked = Stays answers.0 unasked
 
 durable_ends : {Kept Unasked : Type 0} (before : Option AcceptRefusal) (cells : Cells) (d : Delivery)
     (r : Result ℕ SubscriptionError) (old new : SubscriptionState) → durable_by before cells d r old new
@@ -81,6 +91,7 @@ durable_ends {Kept} {Unasked} (Some why) cells d r old new answers kept unasked 
 -- what it accepted is a run of the cells, and its tables are what that gives
 pub record IsShownRun (cells : Cells) (s : SubscriptionState) : Type 0 where
   pub shown : AreInCells cells (suc s.start) s.told
+  pub grouped : HasBatchTables s.base (batches_told s.batches) (entries_told s.told) s.tables
   pub singly : HasSingleTables s.base (entries_told s.told) s.tables
 
 holds_as_before : (cells : Cells) (d : Delivery) (s : SubscriptionState) (db : Trees) → IsShownRun cells s
@@ -91,8 +102,11 @@ holds_as_before cells d s db has stored = record {
   goes_on = sym (append-nil s.told);
   brought = inl refl;
   shown = has.shown;
+  batches = s.batches;
+  parted = inl refl;
   rows = s.tables.rows;
   stored = stored;
+  grouped = has.grouped;
   singly = has.singly;
 }
 
@@ -108,8 +122,14 @@ holds_accepted cells d old new db accepts has stored =
       goes_on = ap (λ (x : SubscriptionState). x.told) accepts.kept;
       brought = inr accepts.shown;
       shown = subst (λ n. AreInCells cells (suc n) new.told) start has.shown;
+      batches = new.batches;
+      parted = inr (ap (λ (x : SubscriptionState). x.batches) accepts.kept);
       rows = new.tables.rows;
       stored = subst (λ n. HasRows db new.tables.rows (n + length new.told)) start stored;
+      grouped = subst (λ (b : TableState). HasBatchTables b (batches_told new.batches) (entries_told new.told)
+          (record old.tables { rows = new.tables.rows })) base
+          (subst (HasBatchTables new.base (batches_told new.batches) (entries_told new.told)) accepts.rows_changed
+          has.grouped);
       singly = subst (λ (b : TableState). HasSingleTables b (entries_told new.told)
           (record old.tables { rows = new.tables.rows })) base
           (subst (HasSingleTables new.base (entries_told new.told)) accepts.rows_changed has.singly);
@@ -129,8 +149,12 @@ holds_either cells d s p db has over are (inr stored) =
       goes_on = refl;
       brought = inr are;
       shown = in_cells_append cells (suc s.start) (suc (cursor_of s)) s.told p.tokens has.shown over.shown (omega arith);
+      batches = s.batches ++ p.tokens ∷ [];
+      parted = inr refl;
       rows = overlaid s.tables.rows p.changes;
       stored = subst (HasRows db (overlaid s.tables.rows p.changes)) (omega (arith, long)) stored;
+      grouped = batch_on s.base s.batches s.told p.tokens s.tables (changed_tables s.tables p.changes) has.grouped
+          over.grouped;
       singly = over.singly;
     }
 

@@ -8,7 +8,6 @@ use Rattle.std.specs.Map.{keys_of}
 use Rattle.cs_apply.specs.SameKey.{same_key}
 use Rattle.cs_apply.specs.Single.{single}
 use Rattle.cs_apply.specs.State.{TableState}
-use Rattle.cs_apply.specs.declared.conflict.Conflict.{Conflict}
 use Rattle.cs_group.specs.Group.{group_of}
 use Rattle.par_apply.specs.Durable.{changed_tables}
 use Rattle.par_apply.specs.Planned.{RowsFit}
@@ -16,20 +15,20 @@ use Rattle.par_apply.specs.RowChanges.{RowChanges}
 use Rattle.rb_desk.specs.declared.delivery.Delivery.{Delivery}
 use Rattle.rb_sequence.specs.Cells.{AreInCells, Cells, CellToken}
 use Rattle.rb_sequence.specs.Entry.{Entry}
-use Rattle.rb_subscriber.specs.Accept.{HasSingleTables, accept_brought, applied, applied_if_admitted, first_outside_entry}
-use Rattle.rb_subscriber.specs.Accept.{joined_bodies, refusal_before}
+use Rattle.rb_subscriber.specs.Accept.{HasSingleTables, accept_brought, joined_bodies, refusal_before}
 use Rattle.rb_subscriber.specs.AcceptShown.{DueAnswers}
 use Rattle.rb_subscriber.specs.Durable.{DurableAnswers, Falls, IsPendingOver, KeepAnswers, KeptAnswers, durable_by}
 use Rattle.rb_subscriber.specs.Endpoint.{Endpoint}
-use Rattle.rb_subscriber.specs.Shown.{ShowDelivery, entries_told}
+use Rattle.rb_subscriber.specs.Shown.{ShowDelivery, entries_told, tokens_shown}
 use Rattle.rb_subscriber.specs.Subscription.{PendingAccept, SubscriptionState, own_endpoint}
 use Rattle.rb_subscriber.specs.declared.keeping.KeepError.{KeepError}
 use Rattle.rb_subscriber.specs.declared.keeping.KeepError.TheVariants as keep
 use Rattle.rb_subscriber.specs.declared.refusal.AcceptRefusal.{AcceptRefusal}
 use Rattle.rb_subscriber.specs.declared.refusal.AcceptRefusal.TheVariants as refusal
 use Rattle.rb_subscriber.specs.declared.refusal.SubscriptionError.{SubscriptionError}
-use Rattle.rb_subscriber.specs.declared.refusal.SubscriptionError.TheVariants.{Refused}
-use Rattle.rb_subscriber.proofs.accepting.AcceptLaws.{asked_of, none_is_due}
+use Rattle.rb_subscriber.specs.declared.refusal.SubscriptionError.TheVariants.{Refused, RefusedEntries}
+use Rattle.rb_subscriber.specs.declared.shown.Shown.{Shown}
+use Rattle.rb_subscriber.proofs.accepting.AcceptLaws.{none_is_due}
 use Rattle.rb_subscriber.proofs.accepting.ShownLaws.{own_as, singly_on, state_of}
 
 -- ---- what isn't refused has nothing pending
@@ -48,29 +47,11 @@ if_none o P is = subst (λ (p : Option PendingAccept). IfSome p P) (sym is) tt
 
 -- ---- `Store` comes from nothing but the store
 
-applied_no_store : (old : Endpoint) (last : ℕ) (r : Result TableState Conflict) → applied old last r ≡ Err refusal.Store → ⊥
-applied_no_store old last (Ok tables) e = absurd cc
-applied_no_store old last (Err conflict) e = absurd cc
-
-admitted_no_store : (old : Endpoint) (last : ℕ) (entries : List Entry) (o : Option Entry)
-    → applied_if_admitted old last entries o ≡ Err refusal.Store → ⊥
-admitted_no_store old last entries None e =
-    applied_no_store old last (single old.tables (group_of (joined_bodies entries))) e
-admitted_no_store old last entries (Some entry) e = absurd cc
-
-no_store : (old : Endpoint) (entries : List Entry) (d : Delivery) → refusal_before old d ≡ None
-    → accept_brought old entries d ≡ Err refusal.Store → ⊥
-no_store old entries d free e =
-    let outside = first_outside_entry old.tables.schema entries in
-    admitted_no_store old d.last entries outside (sym (asked_of old entries d outside free refl) ∙ e)
-
 -- so the answers without a store are those with one that doesn't fail
 pub due_kept : (cells : Cells) (d : Delivery) (result : Result ℕ SubscriptionError) (old new : SubscriptionState)
-    → refusal_before (own_endpoint old) d ≡ None → DueAnswers cells d result old new
-    → KeptAnswers cells d result old new
-due_kept cells d (Err (Refused refusal.Store)) old new free due =
-    absurd (no_store (own_endpoint old) (entries_told due.1) d free due.3)
-due_kept cells d result old new free due = due
+    → DueAnswers cells d result old new → KeptAnswers cells d result old new
+due_kept cells d (Err (Refused refusal.Store)) old new due = absurd due
+due_kept cells d result old new due = due
 
 -- and those of a delivery that isn't refused before its entries are asked
 pub durable_free : (cells : Cells) (d : Delivery) (result : Result ℕ SubscriptionError) (old new : SubscriptionState)
@@ -86,12 +67,14 @@ pub pending_over : (cells : Cells) (cursor : ℕ) (base : TableState) (told show
     → ShowDelivery cells d shown → RowsFit now changes → IsDistinct same_key (keys_of changes)
     → HasSingleTables base (entries_told told) now
     → HasSingleTables now (entries_told shown) (changed_tables now changes)
+    → single now (group_of (joined_bodies (entries_told shown))) ≡ Ok (changed_tables now changes)
     → IsPendingOver cells cursor base told now (record { tokens = shown; changes = changes })
-pending_over cells cursor base told shown now changes d next some are fit distinct singly more = record {
+pending_over cells cursor base told shown now changes d next some are fit distinct singly more grouped = record {
   shown = subst (λ n. AreInCells cells n shown) next are.0;
   some = omega (arith, are.1, next, some);
   fit = fit;
   distinct = distinct;
+  grouped = grouped;
   singly = singly_on base told shown now (changed_tables now changes) singly more;
 }
 
@@ -117,65 +100,67 @@ fell_holds cells base e new told kept p is same at tokens singly over =
         × HasSingleTables base (entries_told xs) x.tables × (x.fallen ≡ true)
         × IsPendingOver cells x.cursor base xs x.tables p
 
-state_falls : (cells : Cells) (d : Delivery) (sub steps : ℕ) (base : TableState) (before : Option PendingAccept)
+state_falls : (cells : Cells) (d : Delivery) (sub steps : ℕ) (base : TableState)
+    (batches : List (List CellToken)) (before : Option PendingAccept)
     (told shown : List CellToken) (changes : RowChanges) (e new after : Endpoint)
     → e.cursor ≡ e.start + length told → e.fallen ≡ is_some before → ShowDelivery cells d shown
     → accept_brought e (entries_told shown) d ≡ Ok after
     → after.tables ≡ changed_tables e.tables changes → new ≡ record e { fallen = true }
-    → Falls cells d (state_of sub steps base before e told)
-    (state_of sub steps base (Some (record { tokens = shown; changes = changes })) new told)
-state_falls cells d sub steps base before told shown changes e new after at fell are accepts changed fallen = record {
+    → Falls cells d (state_of sub steps base batches before e told)
+    (state_of sub steps base batches (Some (record { tokens = shown; changes = changes })) new told)
+state_falls cells d sub steps base batches before told shown changes e new after at fell are accepts changed fallen = record {
   pending = record { tokens = shown; changes = changes };
   shown = are;
   after = after;
-  accepts = ap (λ (x : Endpoint). accept_brought x (entries_told shown) d) (own_as sub steps base before e told at fell)
+  accepts = ap (λ (x : Endpoint). accept_brought x (entries_told shown) d) (own_as sub steps base batches before e told at fell)
       ∙ accepts;
   changed = changed;
-  kept = ap (λ (x : Endpoint). state_of sub steps base (Some (record { tokens = shown; changes = changes })) x told) fallen;
+  kept = ap (λ (x : Endpoint). state_of sub steps base batches (Some (record { tokens = shown; changes = changes })) x told) fallen;
 }
 
-pub it_falls : (cells : Cells) (d : Delivery) (sub steps : ℕ) (base : TableState) (before : Option PendingAccept)
+pub it_falls : (cells : Cells) (d : Delivery) (sub steps : ℕ) (base : TableState)
+    (batches : List (List CellToken)) (before : Option PendingAccept)
     (told kept shown : List CellToken) (changes : RowChanges) (e new after : Endpoint) (s : SubscriptionState)
-    → state_of sub steps base before e told ≡ s → kept ≡ told
+    → state_of sub steps base batches before e told ≡ s → kept ≡ told
     → e.cursor ≡ e.start + length told → e.fallen ≡ is_some before → ShowDelivery cells d shown
     → accept_brought e (entries_told shown) d ≡ Ok after
     → after.tables ≡ changed_tables e.tables changes → new ≡ record e { fallen = true }
-    → Falls cells d s (state_of sub steps base (Some (record { tokens = shown; changes = changes })) new kept)
-it_falls cells d sub steps base before told kept shown changes e new after s seen same at fell are accepts changed fallen =
+    → Falls cells d s (state_of sub steps base batches (Some (record { tokens = shown; changes = changes })) new kept)
+it_falls cells d sub steps base batches before told kept shown changes e new after s seen same at fell are accepts changed fallen =
     subst (λ (x : SubscriptionState). Falls cells d x
-    (state_of sub steps base (Some (record { tokens = shown; changes = changes })) new kept)) seen
-    (subst (λ (xs : List CellToken). Falls cells d (state_of sub steps base before e told)
-    (state_of sub steps base (Some (record { tokens = shown; changes = changes })) new xs)) (sym same)
-    (state_falls cells d sub steps base before told shown changes e new after at fell are accepts changed fallen))
+    (state_of sub steps base batches (Some (record { tokens = shown; changes = changes })) new kept)) seen
+    (subst (λ (xs : List CellToken). Falls cells d (state_of sub steps base batches before e told)
+    (state_of sub steps base batches (Some (record { tokens = shown; changes = changes })) new xs)) (sym same)
+    (state_falls cells d sub steps base batches before told shown changes e new after at fell are accepts changed fallen))
 
 -- ---- a refusal
 
-refused_here : (cells : Cells) (d : Delivery) (sub steps : ℕ) (base : TableState) (before : Option PendingAccept)
-    (told kept shown : List CellToken) (e new : Endpoint) (why : AcceptRefusal) (s : SubscriptionState)
-    → state_of sub steps base before e told ≡ s → kept ≡ told
-    → e.cursor ≡ e.start + length told → e.fallen ≡ is_some before → refusal_before (own_endpoint s) d ≡ None
-    → ShowDelivery cells d shown → accept_brought e (entries_told shown) d ≡ Err why → new ≡ e
-    → KeptAnswers cells d (Err (Refused why)) s (state_of sub steps base before new kept)
-refused_here cells d sub steps base before told kept shown e new why s seen same at fell free are refuses unmoved =
-    let own : own_endpoint s ≡ e = ap own_endpoint (sym seen) ∙ own_as sub steps base before e told at fell in
-    let back : state_of sub steps base before new kept ≡ s =
-    ap (λ (x : Endpoint). state_of sub steps base before x kept) unmoved
-    ∙ ap (state_of sub steps base before e) same ∙ seen in
-    due_kept cells d (Err (Refused why)) s (state_of sub steps base before new kept) free
-    (back, shown, are, ap (λ (x : Endpoint). accept_brought x (entries_told shown) d) own ∙ refuses)
+refused_here : (cells : Cells) (d : Delivery) (sub steps : ℕ) (base : TableState)
+    (batches : List (List CellToken)) (before : Option PendingAccept)
+    (told kept : List CellToken) (shown : Shown) (e new : Endpoint) (why : AcceptRefusal) (s : SubscriptionState)
+    → state_of sub steps base batches before e told ≡ s → kept ≡ told
+    → e.cursor ≡ e.start + length told → e.fallen ≡ is_some before
+    → ShowDelivery cells d (tokens_shown shown) → accept_brought e (entries_told (tokens_shown shown)) d ≡ Err why
+    → new ≡ e → DueAnswers cells d (Err (RefusedEntries why shown)) s (state_of sub steps base batches before new kept)
+refused_here cells d sub steps base batches before told kept shown e new why s seen same at fell are refuses unmoved =
+    let own : own_endpoint s ≡ e = ap own_endpoint (sym seen) ∙ own_as sub steps base batches before e told at fell in
+    let back : state_of sub steps base batches before new kept ≡ s =
+    ap (λ (x : Endpoint). state_of sub steps base batches before x kept) unmoved
+    ∙ ap (state_of sub steps base batches before e) same ∙ seen in
+    (back, are, ap (λ (x : Endpoint). accept_brought x (entries_told (tokens_shown shown)) d) own ∙ refuses)
 
 -- the same, where the cells and the entries stand elsewhere
 pub refused_kept : (cells sequence : Cells) (d : Delivery) (sub steps : ℕ) (base : TableState)
-    (before : Option PendingAccept) (told kept shown : List CellToken) (entries : List Entry) (e new : Endpoint)
-    (fault : KeepError) (why : AcceptRefusal) (s : SubscriptionState)
-    → state_of sub steps base before e told ≡ s → kept ≡ told
-    → e.cursor ≡ e.start + length told → e.fallen ≡ is_some before → refusal_before (own_endpoint s) d ≡ None
-    → sequence ≡ cells → ShowDelivery sequence d shown → entries ≡ entries_told shown → fault ≡ keep.Refused why
-    → KeepAnswers (Err fault) (accept_brought e entries d) e new
-    → KeptAnswers cells d (Err (Refused why)) s (state_of sub steps base before new kept)
-refused_kept cells sequence d sub steps base before told kept shown entries e new fault why s seen same at fell free
+    (batches : List (List CellToken)) (before : Option PendingAccept) (told kept : List CellToken) (shown : Shown) (entries : List Entry)
+    (e new : Endpoint) (fault : KeepError) (why : AcceptRefusal) (s : SubscriptionState)
+    → state_of sub steps base batches before e told ≡ s → kept ≡ told
+    → e.cursor ≡ e.start + length told → e.fallen ≡ is_some before
+    → sequence ≡ cells → ShowDelivery sequence d (tokens_shown shown) → entries ≡ entries_told (tokens_shown shown)
+    → fault ≡ keep.Refused why → KeepAnswers (Err fault) (accept_brought e entries d) e new
+    → KeptAnswers cells d (Err (RefusedEntries why shown)) s (state_of sub steps base batches before new kept)
+refused_kept cells sequence d sub steps base batches before told kept shown entries e new fault why s seen same at fell
     here shows back is answers =
     let refuses = subst (λ (x : KeepError). KeepAnswers (Err x) (accept_brought e entries d) e new) is answers in
-    refused_here cells d sub steps base before told kept shown e new why s seen same at fell free
-    (subst (λ cs. ShowDelivery cs d shown) here shows)
+    refused_here cells d sub steps base batches before told kept shown e new why s seen same at fell
+    (subst (λ cs. ShowDelivery cs d (tokens_shown shown)) here shows)
     (subst (λ es. accept_brought e es d ≡ Err why) back refuses.0) refuses.1

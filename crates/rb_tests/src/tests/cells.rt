@@ -45,8 +45,11 @@ fn fills<R: Abort>(
         return Err(Fail::new("the cell of 2 is set"));
     };
     assert_eq!(rt; sequence.get_told(&told).own(), 7);
-    let back = filler.fill(second).err();
-    assert_eq!(rt; back.map(|entry| entry.own()), Some(8));
+    let Err(back) = filler.fill(second) else {
+        return Err(Fail::new("the cell of 2 is free"));
+    };
+    assert_eq!(rt; back.entry.own(), 8);
+    assert_eq!(rt; sequence.get_occupant(&back.occupant).own(), 7);
     assert_eq!(rt; sequence.get(2).map(|entry| entry.own()), Some(7));
     assert!(rt; sequence.get(1).is_none());
     Ok(())

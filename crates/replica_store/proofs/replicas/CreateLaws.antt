@@ -8,7 +8,7 @@ use Rattle.sqlite.specs.Command.TheVariants.{CreateTable, Insert}
 use Rattle.sqlite.specs.Source.TheVariants.{Values}
 use Rattle.sqlite.specs.Does.{Tally, lacks_sequence}
 use Rattle.sqlite.specs.Edit.{edit_of, edited}
-use Rattle.sqlite.specs.Effect.{Database}
+use Rattle.sqlite.specs.Effect.{Database, IsDatabase}
 use Rattle.sqlite.specs.Rowids.TheVariants.{Chosen}
 use Rattle.sqlite.specs.State.{State, Writes, Executes, ExecutesInside}
 use Rattle.sqlite.specs.declared.error.Error.{Error}
@@ -16,7 +16,8 @@ use Rattle.sqlite.proofs.Callers.{runs_as, one_step}
 use Rattle.replica_store.specs.Layout.{empty_schema, rows_schema, replica_schema, rb_row, rb_mark}
 use Rattle.replica_store.specs.Picture.{mark_record, IsNewReplica}
 use Rattle.replica_store.specs.Inside.{IsBlankInside, HasRowTable, HasBothTables, IsNewInside}
-use Rattle.replica_store.proofs.statements.Texts.{MakesThisTable, unplaced_mark, with_row_table, with_mark_table, create_row_text}
+use Rattle.replica_store.proofs.statements.Texts.{MakesThisTable, unplaced_mark, with_row_table, with_mark_table}
+use Rattle.replica_store.proofs.statements.Texts.{create_row_text}
 use Rattle.replica_store.proofs.statements.Texts.{makes_row_table, create_mark_text, makes_mark_table}
 use Rattle.replica_store.proofs.statements.Texts.{first_mark_text, first_mark_terms, means_first_mark}
 use Rattle.replica_store.proofs.statements.Did.{did}
@@ -25,6 +26,7 @@ use Rattle.replica_store.proofs.statements.Parts.{not_stopped, value_given, two_
 
 -- the schema and the trees once the table is made
 pub record HasMade (schema : Schema) (table : Table) (old new : State) : Type 0 where
+  pub sound : IsDatabase new.now
   pub is : new.now.schema ≡ created schema table
   pub empty : new.now.trees (next_tree schema) ≡ []
   pub others : KeepsRows schema.tables old.now.trees new.now.trees
@@ -47,6 +49,7 @@ makes_table schema text table old new count it whole has h =
     ∙ value_given (rw plain at first.2) in
     let trees : new.now.trees ≡ first.0.trees = ap (λ (d : Database). d.trees) now in
     record {
+      sound = w.sound;
       is = ap (λ (d : Database). d.schema) now ∙ is;
       empty = ap (λ (t : Trees). t (next_tree schema)) trees
           ∙ subst (λ s. first.0.trees (next_tree s) ≡ []) has made.empty;
@@ -59,7 +62,12 @@ pub row_table_made : (old new : State) (r : Result ℕ Error) → IsBlankInside 
 row_table_made old new (Err e) was h = tt
 row_table_made old new (Ok count) was h =
     let made = makes_table empty_schema create_row_text rb_row old new count makes_row_table refl was.schema h.0 in
-    record { inside = h.1.mode; schema = made.is ∙ with_row_table; empty = made.empty }
+    record {
+      is_open = h.1.is_open;
+      inside = h.1.mode;
+      schema = made.is ∙ with_row_table;
+      empty = made.empty;
+    }
 
 pub mark_table_made : (old new : State) (r : Result ℕ Error) → HasRowTable old
     → ExecutesInside 0 create_mark_text [] old new r → OnOk r (HasBothTables new)
@@ -68,8 +76,10 @@ mark_table_made old new (Ok count) was h =
     let made =
     makes_table rows_schema create_mark_text unplaced_mark old new count makes_mark_table refl was.schema h.0 in
     record {
+      is_open = h.1.is_open;
       inside = h.1.mode;
       schema = made.is ∙ with_mark_table;
+      sound = made.sound;
       empty = made.others.0 ∙ was.empty;
       unmarked =
           made.empty;

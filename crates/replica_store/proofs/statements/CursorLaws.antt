@@ -21,7 +21,8 @@ use Rattle.replica_store.specs.Layout.{rb_mark, replica_schema}
 use Rattle.replica_store.specs.Picture.{mark_record}
 use Rattle.replica_store.specs.Inside.{IsInside, SetsCursor}
 use Rattle.replica_store.proofs.statements.Did.{did}
-use Rattle.replica_store.proofs.statements.Parts.{not_stopped, value_given, two_not_zero, cast_null, cast_int, mark_at_one}
+use Rattle.replica_store.proofs.statements.Parts.{not_stopped, value_given, two_not_zero, cast_null, cast_int}
+use Rattle.replica_store.proofs.statements.Parts.{mark_at_one}
 use Rattle.replica_store.proofs.statements.Texts.{set_cursor_text, cursor_query, means_set_cursor}
 
 pub sets_the_cursor : (old new : State) (place : ℕ) (r : Result ℕ Error) → IsInside old
@@ -56,8 +57,10 @@ sets_the_cursor old new place (Ok count) i h =
     let same = ap (λ (t : Trees). t 0) all ∙ applied.tables.0 (λ e. two_not_zero (sym e)) in
     record {
       inside = record {
+        is_open = h.1.is_open;
         inside = h.1.mode;
         schema = ap (λ (d : Database). d.schema) now;
+        sound = did_so.sound;
         replica = record {
           rising = subst IsTable (sym same) i.replica.rising;
           rows = λ r there. i.replica.rows r (subst (λ l. Has l r) same there);

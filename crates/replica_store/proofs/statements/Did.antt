@@ -3,6 +3,7 @@ use Rattle.std.proofs.Common.{◌≡◌, ℕ, List, None, Ok, unwrap_or, subst}
 use Rattle.sqlite.specs.Order.{Row}
 use Rattle.sqlite.specs.Command.{Command}
 use Rattle.sqlite.specs.Does.{Tally, Does}
+use Rattle.sqlite.specs.Effect.{IsDatabase}
 use Rattle.sqlite.specs.Listing.{understood}
 use Rattle.sqlite.specs.State.{State, mode_of, Executes, Runs, Writes}
 use Rattle.sqlite.proofs.Callers.{statement_of, runs_as}
@@ -14,6 +15,7 @@ pub record HasDone (text : List ℕ) (params : Row) (command : Command) (old new
   pub tally : Tally
   pub does : Does old.step_limit (mode_of old) params (record old.now { schema = replica_schema })
       (statement_of text (understood replica_schema text)) None command (Ok (tally, new.now))
+  pub sound : IsDatabase new.now
   pub counted : count ≡ unwrap_or tally.rows 0
 
 pub did : (text : List ℕ) (params : Row) (old new : State) (command : Command) (count : ℕ) → Means text command
@@ -26,5 +28,6 @@ did text params old new command count means writes has h =
       tally = ran.tally;
       does = subst (λ s. Does old.step_limit (mode_of old) params (record old.now { schema = s })
           (statement_of text (understood replica_schema text)) None command (Ok (ran.tally, new.now))) has ran.changed;
+      sound = ran.sound;
       counted = ran.counted;
     }

@@ -69,7 +69,7 @@ is_found id key body = is_of_key_when id key key body ∙ rw (int_eq_equiv.refl 
 at_its_rowid : (id : ℤ) (key : RowKey) (body : List ℕ) → has_rowid id (row_record id key body) ≡ true
 at_its_rowid id key body = ap is_eq (tied_itself value_cmp_total (Int id))
 
-no_rowid_left : (ids : List ℤ) (rows : List Row) (x : Row) (id : ℤ) → Has (without_all rows ids) x → Has ids id
+pub no_rowid_left : (ids : List ℤ) (rows : List Row) (x : Row) (id : ℤ) → Has (without_all rows ids) x → Has ids id
     → has_rowid id x ≡ false
 no_rowid_left [] rows x id h there = absurd there
 no_rowid_left (i ∷ ids) rows x id h (inl same) =

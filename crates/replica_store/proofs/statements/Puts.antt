@@ -12,12 +12,15 @@ use Rattle.sqlite.specs.Rowids.TheVariants.{Chosen}
 use Rattle.sqlite_rules.specs.Lists.{Has}
 use Rattle.sqlite_rules.proofs.TableLemmas.{put_all_has, put_all_keeps, put_all_adds}
 use Rattle.sqlite.specs.declared.error.Error.{Error}
+use Rattle.sqlite.specs.Effect.{IsDatabase}
 use Rattle.sqlite.specs.State.{State, Executes, ExecutesInside}
 use Rattle.sqlite.proofs.Callers.{one_step}
 use Rattle.cs_model.specs.declared.row_key.RowKey.{RowKey}
+use Rattle.replica_store.specs.Causes.{UsesIds}
 use Rattle.replica_store.specs.Layout.{replica_schema, rb_row}
 use Rattle.replica_store.specs.Picture.{row_record, Stores, AreSameRows}
 use Rattle.replica_store.specs.Inside.{WithBody, IsInside, ChangesRows}
+use Rattle.replica_store.proofs.causes.Ids.{one_id_less}
 use Rattle.replica_store.proofs.statements.Did.{did}
 use Rattle.replica_store.proofs.statements.Inserts.{has_inserted}
 use Rattle.replica_store.proofs.statements.Parts.{two_not_zero, cast_null, cast_int}
@@ -31,7 +34,9 @@ row_params key body = Int (pos key.table) ∷ Blob key.bytes ∷ Blob body ∷ [
 -- what an insertion adds
 record PutsRow (old new : State) (key : RowKey) (body : List ℕ) : Type 0 where
   pub schema : new.now.schema ≡ replica_schema
+  pub sound : IsDatabase new.now
   pub id : ℤ
+  pub id_is : id ≡ next_rowid (old.now.trees 0)
   pub fresh : are_fresh (old.now.trees 0) (row_record id key body ∷ []) ≡ true
   pub rows : new.now.trees 0 ≡ put_all (old.now.trees 0) (row_record id key body ∷ [])
   pub mark : new.now.trees 2 ≡ old.now.trees 2
@@ -52,7 +57,9 @@ puts_row old new key body count has h =
     ∙ rw (cast_null, cast_int (pos key.table)) in
     record {
       schema = it.schema;
+      sound = ran.sound;
       id = id;
+      id_is = refl;
       fresh = subst (λ new. are_fresh (db 0) new ≡ true) news applied.fresh;
       rows = applied.rows ∙ ap (put_all (db 0)) news;
       mark = applied.tables.1.0 two_not_zero;
@@ -103,8 +110,10 @@ puts_in_row old new key body (Ok count) i none h =
     let news = row_record p.id key body ∷ [] in
     record {
       inside = record {
+        is_open = h.1.is_open;
         inside = h.1.mode;
         schema = p.schema;
+        sound = p.sound;
         replica = record {
           rising = subst IsTable (sym p.rows) (IsTable-put_row (row_record p.id key body) rows rep.rising);
           rows = λ r there. elim (put_all_has news rows r (subst (λ l. Has l r) p.rows there)) [
@@ -117,3 +126,20 @@ puts_in_row old new key body (Ok count) i none h =
       rows = row_put old new key body none p;
       mark = p.mark;
     }
+
+-- it uses up one id
+pub takes_one_id : (old new : State) (key : RowKey) (body : List ℕ) (count : ℕ) → IsInside old
+    → ExecutesInside 0 insert_text (row_params key body) old new (Ok count) → UsesIds 1 old new
+takes_one_id old new key body count i h n =
+    let p = puts_row old new key body count i.schema h.0 in
+    let rows = old.now.trees 0 in
+    let news = row_record p.id key body ∷ [] in
+    one_id_less old.now.trees new.now.trees n i.replica.rows
+    (λ id k b there. elim (put_all_has news rows (row_record id k b)
+    (subst (λ l. Has l (row_record id k b)) p.rows there)) [
+      | inl new ↦ elim new [
+        | inl is ↦ inl (let same : id ≡ p.id = cc in same ∙ p.id_is)
+        | inr none ↦ absurd none
+      ]
+      | inr was ↦ inr (k, b, was)
+    ])

@@ -1,5 +1,5 @@
 -- What an UPDATE of the body under a key does to a replica's trees.
-use Rattle.std.proofs.Common.{◌≡◌, inl, inr, ℕ, ℤ, pos, List, [], ◌∷◌, true, Ok, Err, Result, length, map}
+use Rattle.std.proofs.Common.{◌≡◌, inl, inr, ℕ, ◌+◌, arith, ℤ, pos, List, [], ◌∷◌, true, Ok, Err, Result, length, map}
 use Rattle.std.proofs.Common.{refl, sym, ap, subst, ◌∙◌, ◌++◌, ◌⊎◌, drop, unwrap_or, IsTrue, OnOk}
 use Rattle.sqlite_value.specs.declared.value.Value.TheVariants.{Null, Int}
 use Rattle.sqlite.specs.Order.{Row}
@@ -21,22 +21,24 @@ use Rattle.sqlite_rules.proofs.ProbeLemmas.{has_mapped, mapped_has}
 use Rattle.sqlite_rules.proofs.TableLemmas.{put_all_has, put_all_keeps, put_all_adds, without_all_has}
 use Rattle.sqlite.specs.Does.{Tally}
 use Rattle.sqlite.specs.Rows.{Written}
-use Rattle.sqlite.specs.Effect.{Database}
+use Rattle.sqlite.specs.Effect.{Database, IsDatabase}
 use Rattle.sqlite.specs.declared.error.Error.{Error}
 use Rattle.sqlite.specs.State.{State, Executes, ExecutesInside}
 use Rattle.sqlite.proofs.Callers.{one_step}
 use Rattle.std.proofs.lemmas.List.Sorted.{IsPermutation-sym}
 use Rattle.cs_model.specs.declared.row_key.RowKey.{RowKey}
+use Rattle.replica_store.specs.Causes.{HasIdsFor, UsesIds}
 use Rattle.replica_store.specs.Layout.{replica_schema, rb_row}
 use Rattle.replica_store.specs.Picture.{row_record, Stores}
 use Rattle.replica_store.specs.Reading.{AreRowRecords}
 use Rattle.replica_store.specs.Inside.{WithBody, IsInside, ChangesRows}
+use Rattle.replica_store.proofs.causes.Ids.{fewer_ids, same_ids_left}
 use Rattle.replica_store.proofs.statements.Did.{did}
 use Rattle.replica_store.proofs.statements.FoundRows.{shown_is, is_shown, has_permuted, no_row_has, some_has}
 use Rattle.replica_store.proofs.statements.KeyRows.{key_params, is_of_key, has_that_key, is_found, row_left, row_was}
 use Rattle.replica_store.proofs.statements.KeyRows.{HasRowOf, still_rising}
 use Rattle.replica_store.proofs.statements.Parts.{not_stopped, value_given, two_not_zero, cast_int}
-use Rattle.replica_store.proofs.statements.Puts.{row_params, same_record, puts_in_row}
+use Rattle.replica_store.proofs.statements.Puts.{row_params, same_record, puts_in_row, takes_one_id}
 use Rattle.replica_store.proofs.statements.Texts.{update_text, update_terms, update_query, key_tests, means_update}
 use Rattle.replica_store.proofs.statements.Texts.{insert_text}
 
@@ -105,6 +107,7 @@ rowids_found rows key value found all a = record {
 -- what an update leaves
 record Rewrites (old new : State) (key : RowKey) (value : List ℕ) (count : ℕ) : Type 0 where
   pub schema : new.now.schema ≡ replica_schema
+  pub sound : IsDatabase new.now
   pub found : List Row
   pub are : AreFound key_tests (old.now.trees 0) (key_params key) found
   pub news : List Row
@@ -117,7 +120,7 @@ record Rewrites (old new : State) (key : RowKey) (value : List ℕ) (count : ℕ
   pub mark : new.now.trees 2 ≡ old.now.trees 2
   pub counted : count ≡ length news
 
-cast_record : (id : ℤ) (key : RowKey) (value : List ℕ)
+pub cast_record : (id : ℤ) (key : RowKey) (value : List ℕ)
     → cast_row rb_row (row_record id key value) ≡ row_record id key value
 cast_record id key value = rw (cast_int id, cast_int (pos key.table))
 
@@ -147,6 +150,7 @@ rewrites old new key value count i h =
     ap (without_all (db 0)) (sym (same_ids found)) in
     record {
       schema = ap (λ (d : Database). d.schema) now;
+      sound = ran.sound;
       found = rowids found;
       are = rowids_found (db 0) key value found i.replica.rows fit;
       news = news;
@@ -215,10 +219,22 @@ module _ (old new : State) (key : RowKey) (value : List ℕ) (count : ℕ) (i : 
     | inr still ↦ (s.0, (row_was rows r.found key i.replica.rising i.replica.rows r.are s.0 k b still).0)
   ]
 
-  inside_after : IsTrue new.in_transaction → IsInside new
-  inside_after mode = record {
+  ids_were : (id : ℤ) (k : RowKey) (b : List ℕ) → Has (new.now.trees 0) (row_record id k b)
+      → (q : RowKey) × (c : List ℕ) × Has rows (row_record id q c)
+  ids_were id k b there = elim (now_from (row_record id k b) there) [
+    | inl new_one ↦
+        let it = r.news_are _ new_one in
+        let same : id ≡ it.0 = let e = it.3 in cc in
+        (key, it.1, subst (λ a. Has rows (row_record a key it.1)) (sym same) it.2)
+    | inr still ↦ (k, b, without_all_has (ids_of r.found) rows _ still)
+  ]
+
+  inside_after : IsTrue new.is_open → IsTrue new.in_transaction → IsInside new
+  inside_after is_open mode = record {
+    is_open = is_open;
     inside = mode;
     schema = r.schema;
+    sound = r.sound;
     replica = record {
       rising = subst IsTable (sym r.rows)
           (rising_with r.news others (still_rising (ids_of r.found) rows i.replica.rising));
@@ -235,12 +251,13 @@ pub record HasUpdated (old new : State) (key : RowKey) (value : List ℕ) (count
   pub some : (count ≡ 0 → ⊥) → ChangesRows (WithBody key value) old new
   pub no_key : count ≡ 0 → HasRowOf key (Stores old.now.trees) → ⊥
   pub same : count ≡ 0 → ChangesRows (λ rows. rows) old new
+  pub ids : (n : ℕ) → HasIdsFor n old.now.trees → HasIdsFor n new.now.trees
 
 pub updates_key : (old new : State) (key : RowKey) (value : List ℕ) (count : ℕ) → IsInside old
     → ExecutesInside 0 update_text (row_params key value) old new (Ok count) → HasUpdated old new key value count
 updates_key old new key value count i h =
     let r = rewrites old new key value count i h.0 in
-    let inside = inside_after old new key value count i r h.1.mode in
+    let inside = inside_after old new key value count i r h.1.is_open h.1.mode in
     let none = no_key old new key value count i r in
     record {
       some = λ some. record {
@@ -255,6 +272,7 @@ updates_key old new key value count i h =
         mark = r.mark;
       };
       no_key = none;
+      ids = λ n. same_ids_left old.now.trees new.now.trees n (ids_were old new key value count i r);
       same = λ zero. record {
         inside = inside;
         rows = λ k b. (
@@ -289,3 +307,13 @@ updates_and_puts old mid new key value count (Ok n) u zero h =
         ],
       );
     }
+
+pub updates_no_id : (old new : State) (key : RowKey) (value : List ℕ) (count : ℕ)
+    → HasUpdated old new key value count → UsesIds 1 old new
+updates_no_id old new key value count u n ids = fewer_ids (n + 1) n new.now.trees (omega arith) (u.ids (n + 1) ids)
+
+pub updates_and_takes_one : (old mid new : State) (key : RowKey) (value : List ℕ) (count put : ℕ)
+    → HasUpdated old mid key value count → count ≡ 0
+    → ExecutesInside 0 insert_text (row_params key value) mid new (Ok put) → UsesIds 1 old new
+updates_and_takes_one old mid new key value count put u zero h n ids =
+    takes_one_id mid new key value put (u.same zero).inside h n (u.ids (n + 1) ids)

@@ -8,6 +8,8 @@ returns c = λ limits schema events answers new run. record {
   endpoints = c.accepted_is_gapless.ensures.all limits schema events answers new run;
   tables = λ s subscriber found.
       c.tables_apply_singly.ensures limits schema events answers new s subscriber run found;
+  batches = λ s subscriber found.
+      c.tables_are_of_batches.ensures limits schema events answers new s subscriber run found;
   in_order = λ p sender found.
       c.sendings_come_once_in_order.ensures.order limits schema events answers new p sender run found;
   kept = λ p sender found.

@@ -1,9 +1,15 @@
 use Rattle.std.proofs.Common.{◌≤◌, ap, map, rules, subst, sym, ◌∙◌}
 use Rattle.rb_drive.specs.Published.{AreByNumber, HaveSentLines, unsent_lines}
 use Rattle.rb_drive.proofs.outcomes.DriveLaws.{HaveEnded, all_begin_empty, all_have_ended, all_keep_headline, many_are_back}
+use Rattle.rb_drive.proofs.outcomes.ConflictLaws.{AllShowTheirEnd}
 use Rattle.rb_drive.proofs.outcomes.DriveLaws.{placed_fit}
 use Rattle.rb_drive.proofs.outcomes.OwnerLaws.{lines_come_to}
 use Rattle.rb_drive.proofs.drive.end.Goals as goal
+
+-- those that are closed have what shows their conflicts
+pub all_ended-requires : goal.all_ended-requires
+all_ended-requires g c =
+    subst (λ xs. AllShowTheirEnd g.L.StepLedger.cells xs) (sym c.deref.ensures.value) c.in_ok-accepting.ensures.shown
 
 -- each publisher has sent its lines, each subscription has met the sequencer, and the broker is finished
 pub returns-in-Ok-clause-ok : goal.returns-in-Ok-clause-ok
@@ -21,8 +27,8 @@ returns-in-Ok-clause-ok g c =
       within = λ one. subst (λ n. one.done ≤ n) one.lines.ok.0 one.done_within;
       so_far = λ one. (one.done_sent, one.done_faulty);
     }) schema lines have in
-    let ended : HaveEnded sequencer subscribers =
-    subst (λ xs. HaveEnded sequencer xs) c.deref.ensures.value (c.all_ended.ensures (search (rules))) in (
+    let ended : HaveEnded cells sequencer subscribers =
+    subst (λ xs. HaveEnded cells sequencer xs) c.deref.ensures.value (c.all_ended.ensures (search (rules))) in (
       record {
         publishers = c.in_ok-publishers.publishers.items;
         sequencer = sequencer;
@@ -49,7 +55,7 @@ returns-in-Ok-clause-ok g c =
               numbered = c.placed-placed.ensures.numbered;
             })
             finished ended;
-        ended = all_have_ended sequencer c.in-Ok.field-0.placed subscribers finished.many ended;
+        ended = all_have_ended cells sequencer c.in-Ok.field-0.placed subscribers finished.many ended;
       },
       many_are_back count _ subscribers begun,
     )

@@ -1,6 +1,7 @@
 use Rattle.sqlite.specs.Held.{state}
 use Rattle.replica_store.specs.Durable.{KeepsRows}
 use Rattle.rb_subscriber.specs.Subscription.{cursor_of}
+use Rattle.rb_drive.proofs.outcomes.ConflictLaws.{durable_shows}
 use Rattle.rb_drive.proofs.outcomes.KeptLaws.{still_kept}
 use Rattle.rb_drive.proofs.kept.accept_both.Goals as goal
 
@@ -8,4 +9,7 @@ use Rattle.rb_drive.proofs.kept.accept_both.Goals as goal
 pub returns-clause-kept : goal.returns-clause-kept
 returns-clause-kept g c =
     still_kept (λ r s. KeepsRows (state g.S.Store r.conn) s.tables.rows (cursor_of s)) _ _ c.accept_durable.result _ _ _ _
-    c.accept_durable.ensures.answers c.accept_durable.ensures.kept c.accept_durable.ensures.unasked c.requires
+    c.accept_durable.ensures.answers c.accept_durable.ensures.kept c.accept_durable.ensures.unasked c.requires.kept
+
+pub returns-clause-conflict : goal.returns-clause-conflict
+returns-clause-conflict g c = durable_shows _ _ c.accept_durable.result _ _ c.accept_durable.ensures.answers

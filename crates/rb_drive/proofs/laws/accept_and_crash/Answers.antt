@@ -11,9 +11,17 @@ returns-clause-holds g c =
     let new = c.accept_durable-answer.new.self in
     let left = c.accept_durable-answer.new.store in
     let first : IsShownRun g.L.StepLedger.cells old =
-    record { shown = c.cursor-cursor_before.ensures.shown; singly = c.tables-tables_before.ensures.singly } in
+    record {
+      shown = c.cursor-cursor_before.ensures.shown;
+      grouped = c.tables-tables_before.ensures.batches;
+      singly = c.tables-tables_before.ensures.singly;
+    } in
     let last : IsShownRun g.L.StepLedger.cells new =
-    record { shown = c.cursor-cursor_after.ensures.shown; singly = c.tables-tables_after.ensures.singly } in
+    record {
+      shown = c.cursor-cursor_after.ensures.shown;
+      grouped = c.tables-tables_after.ensures.batches;
+      singly = c.tables-tables_after.ensures.singly;
+    } in
     let answers = c.accept_durable-answer.ensures in
     let unasked = unasked_keeps (new.pending ≡ old.pending)
     (λ r. KeepsRows (state g.S.Store r.conn) old.tables.rows (cursor_of old))

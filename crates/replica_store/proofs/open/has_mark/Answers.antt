@@ -11,5 +11,5 @@ returns-clause-fits g c clean =
     let lists : ListsRows shown_mark (old.now.trees 2) c.in_ok-marks.marks.items = search rules in
     let same : IsUnchanged old (state g.S.Store c.stored_marks.new.conn) = search rules in
     rw c.is_some.ensures (mark_fits old.now.trees c.in_ok-marks.marks.items c.only_mark.result
-    (columns_read _ _ c.requires.columns c.stored_marks.ensures.2 same clean) lists
+    (columns_read _ _ c.requires.columns c.stored_marks.ensures.lists.2 same clean) lists
     (rw c.deref.ensures.value at c.only_mark.ensures))

@@ -12,4 +12,4 @@ returns-clause-fits g c clean =
     let same : IsUnchanged old (state g.S.Store c.stored_rows.new.conn) = search rules in
     rw (c.are_records.ensures, c.deref.ensures.value)
     (rows_are_records old.now.trees c.in_ok-rows.rows.items
-    (columns_read _ _ c.requires.columns c.stored_rows.ensures.2 same clean) lists)
+    (columns_read _ _ c.requires.columns c.stored_rows.ensures.lists.2 same clean) lists)

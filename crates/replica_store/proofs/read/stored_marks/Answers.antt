@@ -1,8 +1,13 @@
 use Rattle.std.proofs.Common.{refl}
 use Rattle.replica_store.proofs.replicas.ReadLaws.{asks_marks, tree_listed}
+use Rattle.replica_store.proofs.causes.Reported.{marks_query_cause}
 use Rattle.replica_store.proofs.read.stored_marks.Goals as goal
 
-pub returns : goal.returns
-returns g c =
+pub returns-clause-lists : goal.returns-clause-lists
+returns-clause-lists g c =
     tree_listed _ _ _ _ asks_marks (λ db. refl) c.query_all.result _ _ c.requires c.query_all.ensures.ok
     c.query_all.ensures.survives
+
+pub returns-clause-cause : goal.returns-clause-cause
+returns-clause-cause g c =
+    marks_query_cause c.query_all.result _ _ _ c.requires c.query_all.ensures.survives c.query_all.ensures.err

@@ -1,8 +1,9 @@
-use Rattle.std.proofs.Common.{ap, subst, sym}
+use Rattle.std.proofs.Common.{◌≡◌, ◌∙◌, ap, subst, sym, IfErr}
 use Rattle.rb_sequence.specs.Cells.{Cells, IsReadyFor}
+use Rattle.rb_sequence.specs.Entry.{Entry}
 use Rattle.rb_broker.specs.declared.refusal.RefusedItem.{RefusedItem}
-use Rattle.rb_broker.specs.Placing.{DeskRefuses}
-use Rattle.rb_broker.proofs.WhyLaws.{placing_places, placing_refuses, told_of_desk}
+use Rattle.rb_broker.specs.Placing.{DeskRefuses, ShowsWhy}
+use Rattle.rb_broker.proofs.WhyLaws.{placing_places, placing_refuses, placing_shows, told_of_desk}
 use Rattle.rb_broker.proofs.broker.Broker.place_next.Goals as goal
 
 -- the entry is ready for a cell of the broker
@@ -11,14 +12,28 @@ place-requires g c =
     subst (λ (s : Cells). IsReadyFor s c.in-Ok-ready.ready) c.args.self.now.prepares c.in-Ok-ready.ensures.ok.0
 
 -- the desk refuses, as it was when the lock was taken
-pub returns-then-number-eq0-clause-desk : goal.returns-then-number-eq0-clause-desk
-returns-then-number-eq0-clause-desk g c =
-    subst (DeskRefuses g.L.Hall.limits g.L.StepLedger.cells) (ap (λ (r : RefusedItem). r.why) (sym c.refused.ensures))
-    (told_of_desk g.L.Hall.limits g.L.StepLedger.cells _ c.refuses.result c.refuses.ensures.held c.refuses.ensures.why)
+pub returns-then-number-capacity-clause-desk : goal.returns-then-number-capacity-clause-desk
+returns-then-number-capacity-clause-desk g c =
+    subst (DeskRefuses g.L.Hall.limits g.L.StepLedger.cells c.args.number)
+    (ap (λ (r : RefusedItem). r.why) (sym c.refused.ensures))
+    (told_of_desk g.L.Hall.limits g.L.StepLedger.cells c.args.number _ c.refuses.result c.refuses.ensures.held
+    c.refuses.ensures.why)
 
 pub returns-in-Ok-ready-clause-desk : goal.returns-in-Ok-ready-clause-desk
 returns-in-Ok-ready-clause-desk g c =
-    placing_refuses g.L.Hall.limits c.place.result g.L.StepLedger.cells _ _ _ c.place.ensures.held c.place.ensures.placed
+    subst (λ (e : Entry). IfErr c.place.result
+    (λ refused. DeskRefuses g.L.Hall.limits g.L.StepLedger.cells e.number refused.why))
+    (c.in-Ok-ready.ensures.ok.1 ∙ c.new-entry.ensures)
+    (placing_refuses g.L.Hall.limits c.place.result g.L.StepLedger.cells c.in-Ok-ready.ready.entry _ _
+    c.place.ensures.held c.place.ensures.placed)
+
+-- the item comes back, with what the refusal shows
+pub returns-in-Ok-ready-clause-err : goal.returns-in-Ok-ready-clause-err
+returns-in-Ok-ready-clause-err g c =
+    subst (λ (e : Entry). IfErr c.place.result
+    (λ refused. (refused.item ≡ e.item) × ShowsWhy g.L.StepLedger.cells e.number refused.why))
+    (c.in-Ok-ready.ensures.ok.1 ∙ c.new-entry.ensures)
+    (placing_shows c.place.result g.L.StepLedger.cells c.in-Ok-ready.ready.entry _ _ c.place.ensures.placed)
 
 -- the desk that the lock holds has placed the number
 pub returns-in-Ok-ready-clause-placed : goal.returns-in-Ok-ready-clause-placed

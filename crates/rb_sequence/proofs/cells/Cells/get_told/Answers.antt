@@ -1,18 +1,8 @@
-use Rattle.std.proofs.Common.{◌≡◌, ℕ, sym, ap, subst, ◌∙◌}
-use Rattle.rb_sequence.specs.Segments.{IsLocated, id_at}
-use Rattle.rb_sequence.specs.Cells.{CellToken}
+use Rattle.std.proofs.Common.{sym, subst}
+use Rattle.rb_sequence.specs.Cells.{IsOccupantOf}
 use Rattle.rb_sequence.proofs.cells.Cells.get_told.Goals as goal
 
-pub value-cells-requires : goal.value-cells-requires
-value-cells-requires c =
-    let k = c.locate-segment.result.0 in
-    let j = c.locate-segment.result.1 in
-    let numbers : c.told.inside.number ≡ c.args.told.now.number = ap (λ (t : CellToken). t.number) c.told.view_is in
-    let here = c.requires.segment k j (subst (λ (n : ℕ). IsLocated n k j) numbers c.locate-segment.ensures) in
-    ap (λ (t : CellToken). t.segment) c.told.view_is ∙ here ∙ c.slot.ensures
-
-pub value-requires : goal.value-requires
-value-requires c =
-    let k = c.locate-segment.result.0 in
-    let j = c.locate-segment.result.1 in
-    c.told.invariant.2 k j c.locate-segment.ensures ∙ ap (λ v. id_at v j) (sym c.value-cells.ensures) ∙ c.cell.ensures
+pub get_occupant-requires : goal.get_occupant-requires
+get_occupant-requires c =
+    subst (IsOccupantOf c.args.self.now) (sym c.told.view_is)
+    (record { has = c.requires.has; segment = c.requires.segment })

@@ -3,20 +3,25 @@ use Rattle.std.proofs.lemmas.Result.{err_from_is_err_and}
 use Rattle.std.specs.List.{IsDistinct}
 use Rattle.std.specs.Map.{keys_of}
 use Rattle.cs_apply.specs.SameKey.{same_key}
+use Rattle.cs_apply.specs.Single.{single}
 use Rattle.cs_apply.specs.State.{TableState}
+use Rattle.cs_group.specs.Group.{group_of}
 use Rattle.par_apply.specs.Durable.{changed_tables}
 use Rattle.par_apply.specs.Planned.{RowsFit, planned_changes}
-use Rattle.rb_subscriber.specs.Accept.{accept_brought, HasSingleTables}
+use Rattle.rb_subscriber.specs.Accept.{accept_brought, HasSingleTables, joined_bodies}
+use Rattle.rb_subscriber.specs.Batches.{HasBatchTables}
 use Rattle.rb_subscriber.specs.Durable.{IfStoreFailed, KeepAnswers}
 use Rattle.rb_subscriber.specs.Endpoint.{Endpoint}
 use Rattle.rb_subscriber.specs.Shown.{AreTokens, ShowDelivery, entries_told}
-use Rattle.rb_subscriber.specs.Subscription.{SubscriptionState, cursor_of}
+use Rattle.rb_subscriber.specs.Subscription.{SubscriptionState, batches_told, cursor_of}
 use Rattle.rb_subscriber.specs.declared.keeping.KeepError.{KeepError}
 use Rattle.rb_subscriber.specs.declared.refusal.AcceptRefusal.TheVariants as refusal
 use Rattle.rb_subscriber.specs.declared.refusal.SubscriptionError.{SubscriptionError}
-use Rattle.rb_subscriber.specs.declared.refusal.SubscriptionError.TheVariants.{Refused}
+use Rattle.rb_subscriber.specs.declared.refusal.SubscriptionError.TheVariants.{Refused, RefusedEntries}
+use Rattle.rb_subscriber.specs.declared.shown.Shown.TheVariants as shown
+use Rattle.rb_subscriber.proofs.accepting.AcceptLaws.{accepted_steps}
 use Rattle.rb_subscriber.proofs.accepting.FallLaws.{due_kept, durable_free, fell_holds, if_none, it_falls, last_shown, pending_over, refused_kept}
-use Rattle.rb_subscriber.proofs.accepting.ShownLaws.{WasAccepted, due_ok, looked_result, state_of, was_accepted}
+use Rattle.rb_subscriber.proofs.accepting.ShownLaws.{WasAccepted, batches_stay, due_ok, looked_result, state_of, was_accepted}
 use Rattle.rb_subscriber.proofs.accepting.TokenLaws.{tokens_by_place}
 use Rattle.rb_subscriber.proofs.subscription.Subscription.accept_durable.Goals as goal
 
@@ -28,11 +33,11 @@ returns-in_err-shown-clause-answers g c =
     let schema = c.schema-schema.ensures.same ∙ ap (λ (t : TableState). t.schema) c.tables.ensures
     ∙ ap (λ (x : SubscriptionState). x.tables.schema) c.self.view_is in
     durable_free g.L.StepLedger.cells c.args.delivery.now c.from_residual.result old _ c.in_default.ensures.why
-    (due_kept g.L.StepLedger.cells c.args.delivery.now c.from_residual.result old _ (sym c.in_default.ensures.why)
+    (due_kept g.L.StepLedger.cells c.args.delivery.now c.from_residual.result old _
     (looked_result g.L.StepLedger.cells c.args.sequence.now c.args.delivery.now c.schema-schema.result.now old
-    (state_of s.sub s.steps s.base.value s.pending s.end c.tokens_of.new.told.items) c.from_residual.result
+    (state_of s.sub s.steps s.base.value s.batches.list s.pending s.end c.tokens_of.new.told.items) c.from_residual.result
     c.in_err-shown.field-0.0 (p.1 ∙ ap (λ (e : SubscriptionError). Err e) p.2) c.requires.cells schema (sym c.in_default.ensures.why)
-    (ap (state_of s.sub s.steps s.base.value s.pending s.end) c.tokens_of.ensures.same ∙ c.self.view_is) c.in_err-shown.ensures.err))
+    (ap (state_of s.sub s.steps s.base.value s.batches.list s.pending s.end) c.tokens_of.ensures.same ∙ c.self.view_is) c.in_err-shown.ensures.err))
 
 pub invariant_of-entries : goal.invariant_of-entries
 invariant_of-entries g c = record {
@@ -42,14 +47,14 @@ invariant_of-entries g c = record {
 
 -- the delivery was accepted
 accepted : (g : _) (c : goal.After-add g) → WasAccepted g.L.StepLedger.cells c.args.delivery.now c.self.inside.base.value
-    c.self.inside.told.items c.in_ok-shown.shown.items c.add.new.told.items c.self.inside.end c.accept_kept.new.self
+    c.self.inside.batches.list c.self.inside.told.items c.in_ok-shown.shown.items c.add.new.told.items c.self.inside.end c.accept_kept.new.self
 accepted g c =
     let s = c.self.inside in
-    was_accepted g.L.StepLedger.cells c.args.sequence.now c.args.delivery.now s.base.value s.told.items
+    was_accepted g.L.StepLedger.cells c.args.sequence.now c.args.delivery.now s.base.value s.batches.list s.told.items
     c.tokens_of.new.told.items c.in_ok-shown.shown.items c.add.new.told.items _ s.end c.accept_kept.new.self
     c.requires.cells c.in_ok-shown.ensures.ok c.tokens_of.ensures.same c.add.ensures
     (ap entries_told c.deref.ensures.value) c.in-Ok.ensures.answers.0 c.in-Ok.ensures.singly c.self.invariant.0
-    c.self.invariant.1 c.self.invariant.2
+    c.self.invariant.1 c.self.invariant.2 c.self.invariant.8
 
 pub invariant_of-self-in-Ok : goal.invariant_of-self-in-Ok
 invariant_of-self-in-Ok g c =
@@ -64,17 +69,20 @@ invariant_of-self-in-Ok g c =
       if_none c.self.inside.pending _ none,
       inv.6,
       inv.7,
+      subst (λ bs. HasBatchTables c.self.inside.base.value (batches_told bs) (entries_told c.add.new.told.items)
+          c.accept_kept.new.self.tables) (sym c.with.ensures) was.batched,
     )
 
 pub returns-in-Ok-clause-answers : goal.returns-in-Ok-clause-answers
 returns-in-Ok-clause-answers g c =
     let s = c.self.inside in
     durable_free g.L.StepLedger.cells c.args.delivery.now (Ok c.in-Ok.cursor) c.args.self.now
-    (state_of s.sub s.steps s.base.value s.pending c.accept_kept.new.self c.add.new.told.items) c.in_default.ensures.why
+    (state_of s.sub s.steps s.base.value c.with.result.list s.pending c.accept_kept.new.self c.add.new.told.items) c.in_default.ensures.why
     (rw (← c.self.view_is)
-    (due_ok g.L.StepLedger.cells c.args.delivery.now s.sub s.steps c.in-Ok.cursor s.base.value s.pending s.told.items
+    (due_ok g.L.StepLedger.cells c.args.delivery.now s.sub s.steps c.in-Ok.cursor s.base.value s.batches.list _ s.pending
+    s.told.items
     c.add.new.told.items c.in_ok-shown.shown.items s.end c.accept_kept.new.self (accepted g c) c.self.invariant.0
-    c.self.invariant.3 c.in-Ok.ensures.answers.1))
+    c.self.invariant.3 c.in-Ok.ensures.answers.1 c.with.ensures))
 
 pub returns-in-Ok-clause-kept : goal.returns-in-Ok-clause-kept
 returns-in-Ok-clause-kept g c =
@@ -84,11 +92,13 @@ returns-in-Ok-clause-kept g c =
 pub returns-in-Err-Refused-clause-answers : goal.returns-in-Err-Refused-clause-answers
 returns-in-Err-Refused-clause-answers g c =
     let s = c.self.inside in
-    durable_free g.L.StepLedger.cells c.args.delivery.now (Err (Refused c.in-Err-Refused.why)) c.args.self.now
-    (state_of s.sub s.steps s.base.value s.pending c.accept_kept.new.self c.tokens_of.new.told.items) c.in_default.ensures.why
-    (refused_kept g.L.StepLedger.cells c.args.sequence.now c.args.delivery.now s.sub s.steps s.base.value s.pending s.told.items
-    c.tokens_of.new.told.items c.in_ok-shown.shown.items _ s.end c.accept_kept.new.self _ c.in-Err-Refused.why
-    c.args.self.now c.self.view_is c.tokens_of.ensures.same c.self.invariant.0 c.self.invariant.3 (sym c.in_default.ensures.why)
+    let back = shown.Held c.in_ok-shown.shown in
+    durable_free g.L.StepLedger.cells c.args.delivery.now (Err (RefusedEntries c.in-Err-Refused.why back)) c.args.self.now
+    (state_of s.sub s.steps s.base.value s.batches.list s.pending c.accept_kept.new.self c.tokens_of.new.told.items) c.in_default.ensures.why
+    (refused_kept g.L.StepLedger.cells c.args.sequence.now c.args.delivery.now s.sub s.steps s.base.value s.batches.list
+    s.pending s.told.items
+    c.tokens_of.new.told.items back _ s.end c.accept_kept.new.self _ c.in-Err-Refused.why
+    c.args.self.now c.self.view_is c.tokens_of.ensures.same c.self.invariant.0 c.self.invariant.3
     c.requires.cells c.in_ok-shown.ensures.ok (ap entries_told c.deref.ensures.value) c.in-Err-Refused.field-0-is
     c.in-Err-Refused.ensures.answers)
 
@@ -116,9 +126,13 @@ invariant_of-self-in-Err-Store g c =
     let pending = subst (λ (x : KeepError). IfStoreFailed (Err x) (λ plan. HasSingleTables s.end.tables
     (entries_told c.deref.result.now) (changed_tables s.end.tables (planned_changes plan)))) is
     c.in-Err-Store.ensures.pending in
+    let back = ap entries_told c.deref.ensures.value in
+    let steps = accepted_steps s.end (entries_told c.deref.result.now) d falls.after falls.accepts in
+    let grouped = subst (λ es. single s.end.tables (group_of (joined_bodies es)) ≡ Ok (changed_tables s.end.tables changes))
+    back (steps.tables ∙ ap (λ (t : TableState). Ok t) falls.changed) in
     let over = pending_over cells s.end.cursor s.base.value s.told.items shown s.end.tables changes d next some are fit
-    distinct inv.2 (subst (λ es. HasSingleTables s.end.tables es (changed_tables s.end.tables changes))
-    (ap entries_told c.deref.ensures.value) pending) in
+    distinct inv.2 (subst (λ es. HasSingleTables s.end.tables es (changed_tables s.end.tables changes)) back pending)
+    grouped in
     let holds = fell_holds cells s.base.value s.end new s.told.items c.tokens_of.new.told.items
     (record { tokens = shown; changes = changes }) falls.fallen c.tokens_of.ensures.same inv.0 inv.1 inv.2 over in
     let last = last_shown cells d s.end.cursor shown next some are in
@@ -134,6 +148,8 @@ invariant_of-self-in-Err-Store g c =
       ),
       inv.6,
       inv.7,
+      batches_stay s.base.value s.end.tables new.tables s.batches.list s.told.items c.tokens_of.new.told.items
+          (ap (λ (x : Endpoint). x.tables) falls.fallen) c.tokens_of.ensures.same inv.8,
     )
 
 pub returns-in-Err-Store-clause-answers : goal.returns-in-Err-Store-clause-answers
@@ -147,9 +163,9 @@ returns-in-Err-Store-clause-answers g c =
     let falls = subst (λ (x : KeepError). KeepAnswers (Err x) (accept_brought s.end (entries_told c.deref.result.now) d)
     s.end c.accept_kept.new.self) c.in-Err-Store.field-0-is c.in-Err-Store.ensures.answers in
     durable_free cells d (Err (Refused refusal.Store)) c.args.self.now
-    (state_of s.sub s.steps s.base.value (Some (record { tokens = shown; changes = planned_changes c.in-Err-Store.plan }))
+    (state_of s.sub s.steps s.base.value s.batches.list (Some (record { tokens = shown; changes = planned_changes c.in-Err-Store.plan }))
     c.accept_kept.new.self c.tokens_of.new.told.items) c.in_default.ensures.why
-    (it_falls cells d s.sub s.steps s.base.value s.pending s.told.items c.tokens_of.new.told.items shown
+    (it_falls cells d s.sub s.steps s.base.value s.batches.list s.pending s.told.items c.tokens_of.new.told.items shown
     (planned_changes c.in-Err-Store.plan) s.end c.accept_kept.new.self falls.after c.args.self.now c.self.view_is
     c.tokens_of.ensures.same inv.0 inv.3 are
     (subst (λ es. accept_brought s.end es d ≡ Ok falls.after) (ap entries_told c.deref.ensures.value) falls.accepts)

@@ -3,6 +3,7 @@ use Rattle.sqlite.specs.State.{HasCleanDisk}
 use Rattle.sqlite.specs.Held.{state}
 use Rattle.par_apply.specs.RowChanges.{overlaid}
 use Rattle.replica_store.proofs.replicas.DurableLaws.{if_clean, committed_rows_stand, commit_has_rows, crash_has_rows}
+use Rattle.replica_store.proofs.replicas.DurableLaws.{error_of_commit}
 use Rattle.replica_store.proofs.durable.ReplicaDurableRows.commit.Goals as goal
 
 pub returns-clause-ok : goal.returns-clause-ok
@@ -22,3 +23,8 @@ returns-clause-leaves g c rows at keeps clean db left =
     let early : HasCleanDisk old = omega (arith, c.commit.ensures.survives.clean) in
     crash_has_rows c.args.changes.now c.args.cursor rows at old.committed.trees db c.requires.distinct
     (keeps early).now (c.commit.ensures.crash clean db left)
+
+pub returns-clause-failed : goal.returns-clause-failed
+returns-clause-failed g c =
+    error_of_commit c.commit.result (state g.S.Store c.args.self.now.conn) (state g.S.Store c.commit.new.self.conn)
+    c.args.changes.now c.args.cursor c.commit.ensures.cause

@@ -12,7 +12,7 @@ use Rattle.replica_store.proofs.replica.Replica.tables.Goals as goal
 pub returns-clause-rows : goal.returns-clause-rows
 returns-clause-rows g c clean =
     let old = state g.S.Store c.args.self.now.conn in
-    let held = c.requires (was_clean _ _ _ c.stored_rows.ensures.2 clean) in
+    let held = c.requires (was_clean _ _ _ c.stored_rows.ensures.lists.2 clean) in
     let answer = c.in_ok-answer.answer.items in
     let lists : ListsRows shown_row (old.now.trees 0) answer = search rules in
     IfOk-weaker c.tables_of.result _ _
@@ -23,7 +23,7 @@ returns-clause-rows g c clean =
 pub returns-clause-fits : goal.returns-clause-fits
 returns-clause-fits g c clean =
     let old = state g.S.Store c.args.self.now.conn in
-    let held = c.requires (was_clean _ _ _ c.stored_rows.ensures.2 clean) in
+    let held = c.requires (was_clean _ _ _ c.stored_rows.ensures.lists.2 clean) in
     let answer = c.in_ok-answer.answer.items in
     let lists : ListsRows shown_row (old.now.trees 0) answer = search rules in
     let same = shown_is_stored old answer held lists in
@@ -35,7 +35,7 @@ returns-clause-fits g c clean =
 pub returns-clause-unusable : goal.returns-clause-unusable
 returns-clause-unusable g c clean err are =
     let old = state g.S.Store c.args.self.now.conn in
-    let held = c.requires (was_clean _ _ _ c.stored_rows.ensures.2 clean) in
+    let held = c.requires (was_clean _ _ _ c.stored_rows.ensures.lists.2 clean) in
     let answer = c.in_ok-answer.answer.items in
     let lists : ListsRows shown_row (old.now.trees 0) answer = search rules in
     (rw c.deref.ensures.value at c.tables_of.ensures.unusable) err (all_show old answer held lists)

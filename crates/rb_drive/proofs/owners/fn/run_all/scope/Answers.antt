@@ -42,6 +42,10 @@ loop-reader-preserved g c =
     (into_iter_items c.next-in-loop-reader.new.self) _ same
     (rw c.in-Some-reader.ensures.steps.0 at c.loop-reader.invariant))
 
+-- a subscriber whose thread can't be made is dropped as it came
+pub invariant_of-t-143 : goal.invariant_of-t-143
+invariant_of-t-143 g c = record { shown = c.drop-arg-in_default-spawn_with-2-2-1.given.0.0.value.4.shown }
+
 pub returns : goal.returns
 returns g c =
     let senders : into_iter_items c.loop-sender.sender-iterator ≡ [] =

@@ -1,0 +1,6 @@
+use denote.Param.Send.{IsSync, part_keyless}
+use Rattle.rb_sequence.specs.contracts.sight.Sight.{the_row}
+use Rattle.rb_sequence.proofs.sight.Sight.TheSendSync.Send.{send}
+
+pub sync : IsSync the_row
+sync = record { shared = λ d b o κ q. part_keyless the_row send q d b o }
