@@ -265,6 +265,11 @@ def limits():
         yield Drive('drive-two-%d' % appliers, [head], [(0, row(1)), (0, update)], {'appliers': appliers})
     yield Drive('drive-faults-faulty', [head], [(0, row(1)), (1, b'P')], {}, [1])
     yield Drive('drive-faults-nothing', [head], [], {})
+    givens = [(number % 2, row(number)) for number in range(600)]
+    yield Drive('a-full-intake', [head], givens, {'intake': 1})
+    long = b''.join(b'\x12\x00' + integer(number) + string(3, b'x') for number in range(2300))
+    givens = [(0, head + long), (1, row(2300)), (0, row(2301))]
+    yield Drive('nothing-sent-at-first', [head], givens, {'batch': 1})
     yield Drive('sixty-four-publishers', [head], [(number, row(number)) for number in range(64)], {'intake': 1})
     yield Drive('the-last-publisher-alone', [head], [(63, row(number)) for number in range(8)], {'subscribers': 2})
     yield Drive('no-line', [], [], {})

@@ -83,7 +83,7 @@ fn ran<T: Threads + Wait + Sync>(
     let log = format!(in alloc; "{name}.db-wal")?;
     remove(rt, &path)?;
     remove(rt, &log)?;
-    let kept = ran_durable(rt, threads, alloc, &path, case)?;
+    let kept = ran_durable(rt, threads, alloc, &path, &log, case)?;
     remove(rt, &path)?;
     remove(rt, &log)?;
     Ok(match kept {
@@ -92,18 +92,20 @@ fn ran<T: Threads + Wait + Sync>(
     })
 }
 
-// Runs a drive with a replica in a new file, and opens that file again.
+// Runs a drive with a replica in a new file, and opens that file again, without its log.
 fn ran_durable<T: Threads + Wait + Sync>(
     rt: &HostRuntime,
     threads: &T,
     alloc: Global,
     path: &str,
+    log: &str,
     case: &DriveCase,
 ) -> io::Result<Result<usize, String>> {
     let lines = match case.run_durable(threads, alloc, Connection::open(rt, path))? {
         Ok(lines) => lines,
         Err(difference) => return Ok(Err(difference)),
     };
+    remove(rt, log)?;
     Ok(
         match case.compare_replica(alloc, Connection::open(rt, path))? {
             Ok(more) => Ok(lines.saturating_add(more)),
