@@ -307,7 +307,8 @@ ack 0 4 = Floor(7)",
     8,
 );
 
-// The resumption is the step for which the journal needs its second piece, of 1,024 steps.
+// The resumption is the step for which the journal needs its second piece of memory: four steps and
+// 1,019 came before, placements aside.
 pub const RESUMED_FROM_AFTER: Row = (
     (2, 4, 16, 4),
     b"\
@@ -325,7 +326,7 @@ take 0 0 = Delivery(3, 0, 6, 7)
 durable 0 0 = Accepted(3)
 durable 0 1 = Refused(Store)
 fall = Fell(3, 5, 2)
-expires 0 1013 = Expired(0)
+expires 0 1019 = Expired(0)
 resume 5 5 = Link(2)
 durable 0 2 = Refused(StaleLink)
 take 0 0 = Delivery(4, 0, 6, 7)
