@@ -8,8 +8,8 @@ ghost use Rattle.std.specs.FinSet as set;
 ghost use Rattle.std.specs.{List.{IsDistinct}, Map.{keys_of}};
 ghost use Rattle.cs_model.specs.declared.row_key.RowKey.{RowKey as Key};
 ghost use Rattle.cs_apply.specs.{Columns.{HaveColumns}, Errors.{ReportsConflict}};
-ghost use Rattle.cs_apply.specs.Held.{FitsKey, CanHoldRow, KeyHasPlace, held_also, is_key_placed};
-ghost use Rattle.cs_apply.specs.{Held.{with_row}, Seen.{listed}, Single.{single}};
+ghost use Rattle.cs_apply.specs.Held.{FitsKey, KeyHasPlace, held_also, is_key_placed, with_row};
+ghost use Rattle.cs_apply.specs.{Seen.{listed}, Single.{single}};
 ghost use Rattle.cs_apply.specs.{Changed.{IsChanged}, SameKey.{same_key}, State.{compatible}};
 
 use crate::changes::{change_all, kept_table};
@@ -197,26 +197,5 @@ impl HeldTables {
     {
         let _places = self.places.rows.len();
         self.places.rows.swap_remove(key);
-    }
-
-    /// Sets the row in a key's place, or takes the row out and keeps the place. Does not allocate.
-    pub fn write(&mut self, key: &RowKey, row: Option<Row>)
-        requires { CanHoldRow self.old (key.now, row) }
-        ensures state { self.new.state ≡ (with_row self.old key.now row).state }
-        ensures there { (other : Key) → KeyHasPlace self.old other → KeyHasPlace self.new other }
-    {
-        let emptied = usize::from(row.is_none());
-        self.places.empty = self.places.empty.saturating_add(emptied);
-        let Some(place) = self.places.rows.get_mut(key) else {
-            return;
-        };
-        *place = row;
-    }
-
-    /// Drops the places without rows, once they are the majority. Does not allocate.
-    pub fn sweep(&mut self)
-        ensures { self.new.state ≡ self.old.state }
-    {
-        self.places.sweep();
     }
 }

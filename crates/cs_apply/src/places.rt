@@ -223,7 +223,7 @@ impl Places {
 
     /// Drops the empty places once they are the majority. So the deletes since the last sweep pay
     /// for the next. Does not allocate.
-    pub(crate) fn sweep(&mut self)
+    fn sweep(&mut self)
         ensures rows { rows_in self.new ≡ rows_in self.old }
         ensures log { self.new.log.items ≡ self.old.log.items }
     {

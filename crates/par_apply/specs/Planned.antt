@@ -12,7 +12,7 @@ use Rattle.par_apply.specs.RowChanges.{AreRowChanges, RowChanges}
 
 -- the changes of a plan, in its own order
 abbrev pub planned_changes : RowPlan → RowChanges
-planned_changes plan = plan.changes.items
+planned_changes plan = plan.changes.list.items
 
 -- a change whose row, if there is one, has a value for each column
 abbrev pub FitsAtKey : TableState → RowKey × Option (List Value) → Type 0

@@ -10,7 +10,7 @@ use Rattle.par_apply.specs.RowChanges.{RowChanges}
 
 -- the changes that are staged, in the plan's order
 abbrev pub changes_staged : StagedPlan → RowChanges
-changes_staged staged = staged.changes.items
+changes_staged staged = staged.changes.list.items
 
 -- each change can be made without memory
 abbrev pub CanHoldAll : HeldState → RowChanges → Type 0
@@ -35,4 +35,4 @@ without_places tables changes (i ∷ made) =
 
 -- the tables without the places that staging made
 abbrev pub unstaged : HeldState → StagedPlan → HeldState
-unstaged tables staged = without_places tables staged.changes.items staged.made.items
+unstaged tables staged = without_places tables staged.changes.list.items staged.made.items

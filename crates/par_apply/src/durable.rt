@@ -1,13 +1,13 @@
 //! A durable store of rows and a cursor, and a plan that is committed to it and to tables.
 
-ghost use Rattle.std.specs.{Prelude.{◌≡◌, ℕ, OnOk, OnErr}, List.{IsDistinct}};
-ghost use Rattle.std.specs.Map.{keys_of};
-ghost use Rattle.cs_apply.specs.{SameKey.{same_key}, State.{Rows}};
+ghost use Rattle.std.specs.Prelude.{◌≡◌, ℕ, OnOk, OnErr};
+ghost use Rattle.cs_apply.specs.State.{Rows};
 ghost use Rattle.par_apply.specs.Durable.{IfRefused, IfNotAsked, changed_tables};
 ghost use Rattle.par_apply.specs.{Planned.{RowsFit, planned_changes}, RowChanges.{overlaid}};
 ghost use Rattle.par_apply.specs.Staged.{changed_places};
 
-use crate::planned::{RowChange, RowPlan};
+use crate::distinct::RowChange;
+use crate::planned::RowPlan;
 use crate::staged::stage;
 use cs_apply::{HeldTables, Tables};
 use std::alloc::Global;
@@ -65,7 +65,6 @@ pub fn commit_durably<S: DurableRows>(
     cursor: u64,
 ) -> Result<(), NotCommitted<S::Error>>
     requires fit { RowsFit tables.old (planned_changes plan) }
-    requires distinct { IsDistinct same_key (keys_of (planned_changes plan)) }
     requires kept { (at : ℕ) × S.keeps store.old tables.old.rows at }
     ensures ok { OnOk result (tables.new ≡ changed_tables tables.old (planned_changes plan)) }
     ensures kept { OnOk result (S.keeps store.new tables.new.rows cursor) }
@@ -93,7 +92,6 @@ fn commit_places<S: DurableRows>(
     cursor: u64,
 ) -> Result<(), NotCommitted<S::Error>>
     requires fit { RowsFit tables.old.state (planned_changes plan) }
-    requires distinct { IsDistinct same_key (keys_of (planned_changes plan)) }
     requires kept { (at : ℕ) × S.keeps store.old tables.old.state.rows at }
     ensures ok { OnOk result (tables.new ≡ changed_places tables.old (planned_changes plan)) }
     ensures changed { OnOk result

@@ -4,6 +4,7 @@
 //! committed to a durable store and to the tables together (`DurableRows`).
 #![tactic(auto)]
 
+mod distinct;
 mod durable;
 mod gate;
 pub mod laws;
@@ -15,9 +16,10 @@ mod staged;
 mod whole;
 mod worker;
 
+pub use distinct::RowChange;
 pub use durable::{DurableRows, NotCommitted, commit_durably};
 pub use gate::{Gate, Open};
-pub use planned::{RowChange, RowPlan, plan_changes};
+pub use planned::{RowPlan, plan_changes};
 pub use positions::split;
 pub use shard::shard_of;
 pub use staged::{NotStaged, StagedPlan, stage};

@@ -9,36 +9,34 @@ ghost use Rattle.par_apply.specs.Durable.{changed_tables};
 ghost use Rattle.par_apply.specs.Planned.{IsPlanOf, planned_changes};
 ghost use Rattle.par_apply.specs.Workers.{first_error, first_error_from, changes_answered};
 
+use crate::distinct::{DistinctChanges, RowChange};
 use crate::gate::Gate;
 use crate::worker::{ShardPlan, plan_shards};
 use cs_apply::laws::rows_keep_columns;
 use cs_apply::{ApplyError, Tables};
-use cs_model::{Changeset, Row, RowKey};
+use cs_model::Changeset;
 use std::alloc::Global;
 use std::thread::Threads;
-
-/// A key, and the row that it gets, or none.
-pub type RowChange = (RowKey, Option<Row>);
 
 /// The changes of rows that a changeset makes: one for each key whose row is another one in the
 /// end. `stage` takes it.
 #[derive(Debug, Drop)]
 pub struct RowPlan {
-    pub(crate) changes: Vec<RowChange>,
+    pub(crate) changes: DistinctChanges,
 }
 
 impl RowPlan {
     /// The changes, each of another key. Their order means nothing.
     pub fn changes(&self) -> &[RowChange]
-        ensures { result.now ≡ planned_changes self.now }
+        ensures changes { result.now ≡ planned_changes self.now }
+        ensures distinct { IsDistinct same_key (keys_of (planned_changes self.now)) }
     {
-        &self.changes
+        &self.changes.list
     }
 
     /// Whether the tables `after` are the tables `before` with these changes made. Compares row by
     /// row, and does not allocate.
     pub fn leads(&self, before: &Tables, after: &Tables) -> bool
-        requires { IsDistinct same_key (keys_of (planned_changes self.now)) }
         ensures { Decides result
             (after.now ≡ changed_tables before.now (planned_changes self.now)) }
     {
@@ -82,6 +80,8 @@ fn gathered(
     alloc: Global,
     answers: Vec<Result<ShardPlan, ApplyError>>,
 ) -> Result<RowPlan, ApplyError>
+    requires { first_error_from None answers.items ≡ None
+        → IsDistinct same_key (keys_of (changes_answered answers.items)) }
     ensures ok { IfOk result (λ plan. (first_error_from None answers.items ≡ None)
         × (planned_changes plan ≡ changes_answered answers.items)) }
     ensures refused { IfErr result (λ e. (e ≡ Memory)
@@ -90,15 +90,16 @@ fn gathered(
     if let Some(error) = first_error_of(&answers) {
         return Err(error);
     }
-    let mut changes = Vec::new(alloc);
+    let mut list = Vec::new(alloc);
     for answer in answers {
         let Ok(mut part) = answer else {
             return Err(ApplyError::Memory);
         };
-        if changes.append(&mut part.changes).is_err() {
+        if list.append(&mut part.changes).is_err() {
             return Err(ApplyError::Memory);
         }
     }
+    let changes = DistinctChanges { list };
     Ok(RowPlan { changes })
 }
 

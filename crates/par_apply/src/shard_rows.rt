@@ -10,7 +10,7 @@ ghost use Rattle.cs_apply.specs.SameKey.{IsEditAt, same_key};
 ghost use Rattle.par_apply.specs.RowChanges.{overlaid};
 ghost use Rattle.par_apply.specs.Workers.{Sifts};
 
-use crate::planned::RowChange;
+use crate::distinct::RowChange;
 use cs_apply::{ChangeError, Tables};
 use cs_model::{Row, RowKey, same_values};
 use indexmap::IndexMap;

@@ -10,7 +10,8 @@ ghost use Rattle.par_apply.specs.RowChanges.{RowChanges, overlaid};
 ghost use Rattle.par_apply.specs.Staged.{CanHoldAll, changed_places, changes_staged, unstaged};
 ghost use Rattle.par_apply.specs.Staged.{without_change, without_places};
 
-use crate::planned::{RowChange, RowPlan};
+use crate::distinct::{DistinctChanges, RowChange};
+use crate::planned::RowPlan;
 use cs_apply::HeldTables;
 use cs_model::{CopyIn, Row, RowKey};
 use std::alloc::{AllocError, Global};
@@ -19,7 +20,7 @@ use thiserror::Error;
 /// A plan whose new keys have places. `commit` or `undo` takes it; nothing else lets it go.
 #[derive(Debug)]
 pub struct StagedPlan {
-    changes: Vec<RowChange>,
+    changes: DistinctChanges,
     // the indices of the changes whose places staging made
     made: Vec<usize>,
 }
@@ -34,22 +35,22 @@ pub struct NotStaged {
 impl StagedPlan {
     /// The changes, in the plan's order.
     pub fn changes(&self) -> &[RowChange]
-        ensures { result.now ≡ changes_staged self.now }
+        ensures changes { result.now ≡ changes_staged self.now }
+        ensures distinct { IsDistinct same_key (keys_of (changes_staged self.now)) }
     {
-        &self.changes
+        &self.changes.list
     }
 
     /// Makes the changes: each key gets its row, or neither a row nor a place. Does not allocate.
     pub fn commit(self, tables: &mut HeldTables)
         requires ready { CanHoldAll tables.old (changes_staged self) }
-        requires distinct { IsDistinct same_key (keys_of (changes_staged self)) }
         ensures state { tables.new.state ≡ record tables.old.state {
           rows = overlaid tables.old.state.rows (changes_staged self);
         } }
         ensures places { tables.new ≡ changed_places tables.old (changes_staged self) }
     {
         let StagedPlan { changes, made: _ } = self;
-        change_all(tables, changes);
+        change_all(tables, changes.list);
     }
 
     /// Takes away the places that `stage` made, and hands the plan back. Does not allocate.
@@ -58,7 +59,7 @@ impl StagedPlan {
         ensures plan { planned_changes result ≡ changes_staged self }
     {
         let StagedPlan { changes, made } = self;
-        take_back(tables, &changes, made);
+        take_back(tables, &changes.list, made);
         RowPlan { changes }
     }
 }
@@ -77,8 +78,8 @@ pub fn stage(alloc: Global, tables: &mut HeldTables, plan: RowPlan) -> Result<St
     ensures returned { IfErr result (λ e. planned_changes e.plan ≡ planned_changes plan) }
 {
     let mut made = Vec::new(alloc);
-    if hold_all(alloc, tables, &plan.changes, &mut made).is_err() {
-        take_back(tables, &plan.changes, made);
+    if hold_all(alloc, tables, &plan.changes.list, &mut made).is_err() {
+        take_back(tables, &plan.changes.list, made);
         return Err(NotStaged { plan });
     }
     let RowPlan { changes } = plan;

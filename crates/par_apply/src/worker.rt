@@ -16,8 +16,8 @@ ghost use Rattle.par_apply.specs.Shards.{of_shard, shard_number};
 ghost use Rattle.par_apply.specs.Splitting.{AreOfShard};
 ghost use Rattle.par_apply.specs.Workers.{ReportsPart};
 
+use crate::distinct::RowChange;
 use crate::gate::Gate;
-use crate::planned::RowChange;
 use crate::shard::Shard;
 use crate::shard_rows::ShardRows;
 use cs_apply::{ApplyError, ChangeError, Tables, row_after};

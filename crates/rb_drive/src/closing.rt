@@ -17,22 +17,27 @@ use std::alloc::Global;
 
 /// A store of a database that can be closed.
 pub trait Closable: Alter {
-    /// Closes it. A file has all that was committed then, without its log.
-    fn close_store(self) -> Result<(), StoreError>;
+    /// Copies what its log has into its file, if it has these. All that was committed is in the
+    /// file then, without the log.
+    fn copy_log(&mut self) -> Result<(), StoreError>;
 }
 
+/// A database in memory has no log.
 impl Closable for MemStore {
-    fn close_store(self) -> Result<(), StoreError> {
+    fn copy_log(&mut self) -> Result<(), StoreError> {
         Ok(())
     }
 }
 
+/// After `Ok` the log has nothing.
 impl<D: Disk + Drop> Closable for FileStore<D> {
-    fn close_store(self) -> Result<(), StoreError> {
-        let mut store = self;
-        let copied = store.checkpoint();
-        let _files = store.close();
-        copied
+    ghost use Rattle.std.specs.Prelude.{◌≡◌, OnOk};
+    ghost use Rattle.sqlite_store.specs.FileStore.{HasSpilled, log_frames};
+
+    fn copy_log(&mut self) -> Result<(), StoreError>
+        ensures { OnOk result (¬ HasSpilled self.old → log_frames self.new ≡ 0) }
+    {
+        self.checkpoint()
     }
 }
 
@@ -80,7 +85,8 @@ fn closed<L: Hall, S: Closable + Drop>(
 fn close<S: Closable + Drop>(replica: Replica<S>) -> Result<(), DriveFault>
     ensures { IfErr result IsOfThreads }
 {
-    match replica.into_connection().into_store().close_store() {
+    let mut store = replica.into_connection().into_store();
+    match store.copy_log() {
         Ok(()) => Ok(()),
         Err(StoreError::OutOfMemory) => Err(DriveFault::Memory),
         Err(_) => Err(DriveFault::Store),

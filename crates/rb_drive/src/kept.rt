@@ -6,7 +6,7 @@ ghost use Rattle.cs_apply.specs.State.{state_code};
 ghost use Rattle.rb_subscriber.specs.Subscription.{SubscriptionState};
 ghost use Rattle.rb_drive.specs.{
   Ending.{ShowsOneConflict},
-  Kept.{KeepsSubscription},
+  Kept.{KeepsSubscription, without_store},
   Owners.{beginning_of},
 };
 
@@ -14,8 +14,8 @@ use crate::ending::Settling;
 use par_apply::Open;
 use rb_broker::{Broker, Hall, TakeError};
 use rb_desk::Delivery;
-use rb_subscriber::{Subscription, SubscriptionError, Workers};
-use replica_store::Replica;
+use rb_subscriber::{AcceptRefusal, DurableError, Subscription, SubscriptionError, Workers};
+use replica_store::{Replica, ReplicaError};
 use sqlite::Alter;
 use std::alloc::Global;
 use std::marker::Model;
@@ -152,7 +152,21 @@ fn accept_both<L: Hall, S: Alter, R: Threads + Wait + Sync>(
     ensures begun { beginning_of subscription.new ≡ beginning_of subscription.old }
     ensures kept { KeepsSubscription (state S.Store replica.new.conn) subscription.new }
 {
-    subscription.accept_durable(workers, alloc, broker.sequence(), replica, delivery)
+    without_store(subscription.accept_durable(workers, alloc, broker.sequence(), replica, delivery))
+}
+
+// What a subscription without a store answers; `Store`, as for each later delivery, where the store
+// failed. A drive reports that it failed, and not why.
+fn without_store(
+    accepted: Result<u64, DurableError<ReplicaError>>,
+) -> Result<u64, SubscriptionError>
+    ensures { result ≡ without_store accepted }
+{
+    match accepted {
+        Ok(cursor) => Ok(cursor),
+        Err(DurableError::Accept(why)) => Err(why),
+        Err(DurableError::Store(_)) => Err(SubscriptionError::Refused(AcceptRefusal::Store)),
+    }
 }
 
 // accepts into the subscription's tables alone

@@ -12,9 +12,9 @@ ghost use Rattle.rb_drive.specs.Restart.{HoldsRun};
 use par_apply::Gate;
 use rb_desk::Delivery;
 use rb_sequence::Sequence;
-use rb_subscriber::{StepLedger, Subscription, SubscriptionError, Workers};
-use replica_store::Replica;
+use rb_subscriber::{DurableError, StepLedger, Subscription, Workers};
 use replica_store::laws::crash_and_open;
+use replica_store::{Replica, ReplicaError};
 use sqlite::Alter;
 use sqlite_trees::store::Reopen;
 use std::alloc::Global;
@@ -31,7 +31,7 @@ pub fn accept_and_crash<L: StepLedger, R: Threads + Sync, G: Gate, S: Alter + Re
     subscription: &mut Subscription<L>,
     mut replica: Replica<S>,
     delivery: &Delivery,
-) -> (Result<u64, SubscriptionError>, Option<Replica<S>>)
+) -> (Result<u64, DurableError<ReplicaError>>, Option<Replica<S>>)
     requires cells { sequence.now ≡ L.cells }
     requires stands { subscription.old.pending ≡ None }
     requires kept { KeepsRows (state S.Store replica.conn) subscription.old.tables.rows

@@ -1,6 +1,6 @@
 //! Does what the words of a command line ask for, from a reader to a writer.
 
-ghost use Rattle.std.specs.Prelude.{map, string_bytes};
+ghost use Rattle.std.specs.Prelude.{◌≡◌, map, string_bytes, is_some, IfSome, OnOk};
 ghost use Rattle.clap.specs.Values.{kind_of};
 ghost use Rattle.rb_run.specs.Program.{EndsAsAsked, EndsFor, EndsShown, HasAnswered, HasPrinted};
 ghost use Rattle.rb_run.specs.Program.{HasDriven, HasShown};
@@ -14,6 +14,7 @@ use rb_core::Config;
 use rb_drive::{run_drive, run_durable_drive};
 use rb_script::{Answering, ScriptFault, run_script};
 use rb_show::{RowForm, show};
+use sqlite::{Connection, FileStore};
 use std::alloc::Global;
 use std::io;
 use std::io::{Read, Write};
@@ -88,14 +89,26 @@ fn driven<T: Threads + Wait + Sync + Files, R: Read, W: Write>(
     ensures { HasDriven config subscribers result (R.remaining reader.old)
         (R.remaining reader.new) (W.contents writer.old) (W.contents writer.new) }
 {
-    let driven = match path {
+    let driven = match replica_at(rt, path) {
         None => run_drive(rt, alloc, reader, writer, config, subscribers),
-        Some(path) => {
-            let file = rt.open(path);
-            run_durable_drive(rt, alloc, reader, writer, config, subscribers, file)
-        }
+        Some(file) => run_durable_drive(rt, alloc, reader, writer, config, subscribers, file),
     };
     Ending::of_drive(driven)
+}
+
+// What opening the database at this path gives, if there is one.
+fn replica_at<T: Files>(
+    rt: &T,
+    path: Option<&str>,
+) -> Option<Result<Connection<FileStore<T::File>>, sqlite::Error>>
+    ensures asked { is_some result ≡ is_some path.entry }
+    ensures opened { IfSome result (λ file.
+        IfSome path.entry (λ at. OnOk file (T.opened rt.now at.now))) }
+{
+    match path {
+        None => None,
+        Some(path) => Some(rt.open(path)),
+    }
 }
 
 // Shows rows.

@@ -16,13 +16,14 @@ use Rattle.rb_sequence.specs.Cells.{AreInCells, Cells, CellToken}
 use Rattle.rb_sequence.specs.Entry.{Entry}
 use Rattle.rb_subscriber.specs.Accept.{AsksTables, HasSingleTables, accept_brought, joined_bodies}
 use Rattle.rb_subscriber.specs.Accept.{refusal_before}
-use Rattle.rb_subscriber.specs.AcceptShown.{DueAnswers, RefusesFirst}
+use Rattle.rb_subscriber.specs.AcceptShown.{ConflictsShown, DueAnswers}
 use Rattle.rb_subscriber.specs.Endpoint.{Endpoint}
 use Rattle.rb_subscriber.specs.Shown.{ShowDelivery, entries_told}
 use Rattle.rb_subscriber.specs.Subscription.{PendingAccept, SubscriptionState, own_endpoint}
 use Rattle.rb_subscriber.specs.declared.keeping.KeepError.{KeepError}
 use Rattle.rb_subscriber.specs.declared.keeping.KeepError.TheVariants as keep
-use Rattle.rb_subscriber.specs.declared.refusal.SubscriptionError.{SubscriptionError}
+use Rattle.rb_subscriber.specs.declared.refusal.DurableError.{DurableError}
+use Rattle.rb_subscriber.specs.declared.refusal.DurableError.TheVariants as durable
 use Rattle.rb_subscriber.specs.declared.refusal.SubscriptionError.TheVariants.{Refused}
 use Rattle.rb_subscriber.specs.declared.refusal.AcceptRefusal.{AcceptRefusal}
 use Rattle.rb_subscriber.specs.declared.refusal.AcceptRefusal.TheVariants as refusal
@@ -40,12 +41,12 @@ pub record FallsWith (plan : RowPlan) (accepted : Result Endpoint AcceptRefusal)
 
 -- The call returns what the definition says. Out of memory comes only if the call reaches the
 -- tables. An error changes nothing but that the endpoint falls where the store fails.
-abbrev pub KeepAnswers : Result ℕ KeepError → Result Endpoint AcceptRefusal → Endpoint → Endpoint
-    → Type 0
+abbrev pub KeepAnswers : {E : Type 0} → Result ℕ (KeepError E) → Result Endpoint AcceptRefusal
+    → Endpoint → Endpoint → Type 0
 KeepAnswers (Ok cursor) accepted old new = (accepted ≡ Ok new) × (cursor ≡ new.cursor)
 KeepAnswers (Err (keep.Refused why)) accepted old new = (accepted ≡ Err why) × (new ≡ old)
 KeepAnswers (Err keep.Memory) accepted old new = AsksTables accepted × (new ≡ old)
-KeepAnswers (Err (keep.Store plan)) accepted old new = FallsWith plan accepted old new
+KeepAnswers (Err (keep.Store plan why)) accepted old new = FallsWith plan accepted old new
 
 -- The group of the bodies of these entries applies to the tables without conflict, and these are
 -- the changes of rows that it makes, each of another key.
@@ -56,30 +57,35 @@ pub record PlansGroup (tables : TableState) (entries : List Entry) (changes : Ro
   pub fit : RowsFit tables changes
 
 -- the error isn't a refusal
-abbrev pub IsNoRefusal : KeepError → Type 0
+abbrev pub IsNoRefusal : {E : Type 0} → KeepError E → Type 0
 IsNoRefusal (keep.Refused why) = ⊥
 IsNoRefusal other = Unit {0}
 
 -- P, if the delivery is refused for a conflict
-abbrev pub OnKeepConflict : Result ℕ KeepError → Type 0 → Type 0
+abbrev pub OnKeepConflict : {E : Type 0} → Result ℕ (KeepError E) → Type 0 → Type 0
 OnKeepConflict (Err (keep.Refused (refusal.Conflict conflict))) P = P
 OnKeepConflict other P = Unit {0}
 
 -- P, if the call reaches the tables and tells what it finds: it accepts, a change conflicts, or the
 -- store fails
-abbrev pub OnKeepTables : Result ℕ KeepError → Type 0 → Type 0
+abbrev pub OnKeepTables : {E : Type 0} → Result ℕ (KeepError E) → Type 0 → Type 0
 OnKeepTables (Ok cursor) P = P
 OnKeepTables (Err (keep.Refused (refusal.Conflict conflict))) P = P
-OnKeepTables (Err (keep.Store plan)) P = P
+OnKeepTables (Err (keep.Store plan why)) P = P
 OnKeepTables other P = Unit {0}
 
 -- P of the plan, if the store failed
-abbrev pub IfStoreFailed : Result ℕ KeepError → (RowPlan → Type 0) → Type 0
-IfStoreFailed (Err (keep.Store plan)) P = P plan
+abbrev pub IfStoreFailed : {E : Type 0} → Result ℕ (KeepError E) → (RowPlan → Type 0) → Type 0
+IfStoreFailed (Err (keep.Store plan why)) P = P plan
 IfStoreFailed other P = Unit {0}
 
+-- P of the plan and the store's error, if the store failed
+abbrev pub IfStoreError : {E : Type 0} → Result ℕ (KeepError E) → (RowPlan → E → Type 0) → Type 0
+IfStoreError (Err (keep.Store plan why)) P = P plan why
+IfStoreError other P = Unit {0}
+
 -- P, if the store wasn't asked
-abbrev pub IfStoreUnasked : Result ℕ KeepError → Type 0 → Type 0
+abbrev pub IfStoreUnasked : {E : Type 0} → Result ℕ (KeepError E) → Type 0 → Type 0
 IfStoreUnasked (Err (keep.Refused why)) P = P
 IfStoreUnasked (Err keep.Memory) P = P
 IfStoreUnasked other P = Unit {0}
@@ -113,23 +119,36 @@ pub record Falls (cells : Cells) (delivery : Delivery) (old new : SubscriptionSt
   pub changed : after.tables ≡ changed_tables old.tables pending.changes
   pub kept : new ≡ record old { pending = Some pending }
 
--- What it returns for a delivery that isn't refused before its entries are asked: `Store` where the
--- store fails, and else what it returns without a store.
-abbrev pub KeptAnswers : Cells → Delivery → Result ℕ SubscriptionError → SubscriptionState
-    → SubscriptionState → Type 0
-KeptAnswers cells delivery (Err (Refused refusal.Store)) old new = Falls cells delivery old new
-KeptAnswers cells delivery result old new = DueAnswers cells delivery result old new
-
--- what it returns for any delivery; `Store` comes first of all if it has fallen already
-abbrev pub durable_by : Option AcceptRefusal → Cells → Delivery → Result ℕ SubscriptionError
+-- What it returns for a delivery that isn't refused before its entries are asked: the store's error
+-- where the store fails, and else what it returns without a store.
+abbrev pub KeptAnswers : {E : Type 0} → Cells → Delivery → Result ℕ (DurableError E)
     → SubscriptionState → SubscriptionState → Type 0
-durable_by before cells delivery result old new =
-    RefusesFirst before (KeptAnswers cells delivery result old new) result old new
+KeptAnswers cells delivery (Ok cursor) old new = DueAnswers cells delivery (Ok cursor) old new
+KeptAnswers cells delivery (Err (durable.Accept why)) old new =
+    DueAnswers cells delivery (Err why) old new
+KeptAnswers cells delivery (Err (durable.Store why)) old new = Falls cells delivery old new
 
-abbrev pub DurableAnswers : Cells → Delivery → Result ℕ SubscriptionError → SubscriptionState
-    → SubscriptionState → Type 0
+-- what it returns for any delivery: the refusal that asks nothing of its entries, or else this
+abbrev pub durable_by : {E : Type 0} → Option AcceptRefusal → Cells → Delivery
+    → Result ℕ (DurableError E) → SubscriptionState → SubscriptionState → Type 0
+durable_by None cells delivery result old new = KeptAnswers cells delivery result old new
+durable_by (Some why) cells delivery result old new =
+    (result ≡ Err (durable.Accept (Refused why))) × (new ≡ old)
+
+abbrev pub DurableAnswers : {E : Type 0} → Cells → Delivery → Result ℕ (DurableError E)
+    → SubscriptionState → SubscriptionState → Type 0
 DurableAnswers cells delivery result old new =
     durable_by (refusal_before (own_endpoint old) delivery) cells delivery result old new
+
+-- a conflict comes only if what the cells showed conflicts too when it is applied one after another
+abbrev pub DurableConflictsShown : {E : Type 0} → TableState → Result ℕ (DurableError E) → Type 0
+DurableConflictsShown old (Err (durable.Accept why)) = ConflictsShown old (Err why)
+DurableConflictsShown old other = Unit {0}
+
+-- P of the store's error, if the store failed
+abbrev pub IfStoreFails : {E : Type 0} → Result ℕ (DurableError E) → (E → Type 0) → Type 0
+IfStoreFails (Err (durable.Store why)) P = P why
+IfStoreFails other P = Unit {0}
 
 -- P of what is pending, if it fell in this call
 abbrev pub IfFell : Option PendingAccept → Option PendingAccept → (PendingAccept → Type 0) → Type 0

@@ -27,6 +27,7 @@ ghost use Rattle.rb_subscriber.specs.{
     joined_bodies,
   },
   Durable.{
+    IfStoreError,
     IfStoreFailed,
     IfStoreUnasked,
     KeepAnswers,
@@ -54,13 +55,13 @@ use std::thread::Threads;
 
 /// What stops `Endpoint::accept_kept`.
 #[derive(Debug, Drop)]
-pub(crate) enum KeepError {
+pub(crate) enum KeepError<E> {
     /// The delivery is refused. Neither the endpoint nor the store changes.
     Refused(AcceptRefusal),
     /// Memory ran out. Neither the endpoint nor the store changes.
     Memory,
-    /// The store failed: the endpoint has fallen. This is the plan of the accept.
-    Store(RowPlan),
+    /// The store failed with this error: the endpoint has fallen. This is the plan of the accept.
+    Store(RowPlan, E),
 }
 
 impl Endpoint {
@@ -75,7 +76,7 @@ impl Endpoint {
         entries: &E,
         store: &mut S,
         delivery: &Delivery,
-    ) -> Result<u64, KeepError>
+    ) -> Result<u64, KeepError<S::Error>>
         requires kept { self.old.fallen ≡ false
             → S.keeps store.old self.old.tables.rows self.old.cursor }
         ensures answers { KeepAnswers result
@@ -94,7 +95,7 @@ impl Endpoint {
         ensures leaves { IfStoreFailed result (λ plan.
             S.leaves store.new self.old.tables.rows self.old.cursor
             (overlaid self.old.tables.rows (planned_changes plan)) delivery.now.last) }
-        ensures failed { IfStoreFailed result (λ plan. (why : S.Error) × S.failed store.old
+        ensures failed { IfStoreError result (λ plan why. S.failed store.old
             (planned_changes plan) delivery.now.last store.new why) }
         ensures unasked { IfStoreUnasked result (store.new ≡ store.old) }
     {
@@ -121,10 +122,9 @@ impl Endpoint {
         store: &mut S,
         plan: RowPlan,
         last: u64,
-    ) -> Result<u64, KeepError>
+    ) -> Result<u64, KeepError<S::Error>>
         requires kept { S.keeps store.old self.old.tables.rows self.old.cursor }
         requires fit { RowsFit self.old.tables (planned_changes plan) }
-        requires distinct { IsDistinct same_key (keys_of (planned_changes plan)) }
         requires order { self.old.cursor ≤ last }
         ensures ok { IfOk result (λ cursor. (cursor ≡ last) × (self.new ≡ record self.old {
           cursor = last;
@@ -140,7 +140,7 @@ impl Endpoint {
         ensures leaves { IfStoreFailed result (λ back.
             S.leaves store.new self.old.tables.rows self.old.cursor
             (overlaid self.old.tables.rows (planned_changes back)) last) }
-        ensures failed { IfStoreFailed result (λ back. (why : S.Error) × S.failed store.old
+        ensures failed { IfStoreError result (λ back why. S.failed store.old
             (planned_changes back) last store.new why) }
     {
         match commit_durably(alloc, &mut self.tables, store, plan, last) {
@@ -149,9 +149,9 @@ impl Endpoint {
                 Ok(last)
             }
             Err(NotCommitted::Memory) => Err(KeepError::Memory),
-            Err(NotCommitted::Store(plan, _)) => {
+            Err(NotCommitted::Store(plan, why)) => {
                 self.fallen = true;
-                Err(KeepError::Store(plan))
+                Err(KeepError::Store(plan, why))
             }
         }
     }

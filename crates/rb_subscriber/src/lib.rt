@@ -28,7 +28,7 @@ pub use apply::combined;
 pub use brought::Brought;
 pub use endpoint::Endpoint;
 pub use lost::Lost;
-pub use refusal::{AcceptError, AcceptRefusal, SubscriptionError};
+pub use refusal::{AcceptError, AcceptRefusal, DurableError, SubscriptionError};
 pub use register::{Auditor, MOST_SUBSCRIPTIONS, Missing, Register};
 pub use shown::{Shown, ShownEntries};
 pub use step_ledger::StepLedger;

@@ -47,10 +47,8 @@ pub enum AcceptError {
     Memory,
 }
 
-/// What stops `Subscription::accept`, `accept_alone` and `accept_durable`. The stopped call does
-/// not change the subscription, but for one case: where its store fails, `accept_durable` returns
-/// `Store`, and the subscription has fallen. What the cells showed comes back, so the caller sees
-/// which entries are the reason.
+/// What stops `Subscription::accept` and `accept_alone`. The stopped call does not change the
+/// subscription. What the cells showed comes back, so the caller sees which entries are the reason.
 #[derive(Debug, Drop, Error)]
 pub enum SubscriptionError {
     /// The delivery is refused, whatever its entries are: `Store`, `Closed`, `StaleLink`, `Seen` or
@@ -67,6 +65,28 @@ pub enum SubscriptionError {
     /// Memory ran out, for these entries. It may replace a conflict, but no other refusal.
     #[error("out of memory")]
     Memory { shown: Shown },
+}
+
+/// What stops `Subscription::accept_durable`.
+#[derive(Debug, Drop, Error)]
+pub enum DurableError<E> {
+    /// It stops `accept`, too. Neither the subscription nor the store changes.
+    #[error("{0}")]
+    Accept(SubscriptionError),
+    /// The store failed with this error, and the subscription has fallen.
+    #[error("the store failed")]
+    Store(E),
+}
+
+impl<E> From<SubscriptionError> for DurableError<E> {
+    ghost use Rattle.std.specs.Prelude.{◌≡◌};
+    ghost use Rattle.rb_subscriber.specs.declared.refusal.DurableError.TheVariants.{Accept};
+
+    ghost from_gives = { λ why e. e ≡ Accept why };
+
+    fn from(why: SubscriptionError) -> DurableError<E> {
+        DurableError::Accept(why)
+    }
 }
 
 impl From<AcceptRefusal> for AcceptError {

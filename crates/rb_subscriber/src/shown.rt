@@ -1,5 +1,5 @@
-//! `Shown`: what the cells showed of a delivery; the entries that tokens show, each in its cell; and
-//! how tokens are fetched.
+//! `Shown`: what the cells showed of a delivery; the entries that tokens show, each in its cell;
+//! and how tokens are fetched.
 
 ghost use Rattle.std.specs.Prelude.{◌≡◌, ◌≤◌, ◌+◌, ◌-◌, ◌++◌, [], suc, length, IfOk, IfErr, IfSome};
 ghost use Rattle.std.specs.Prelude.{◌<◌, ◌^◌, ℕ};

@@ -1,18 +1,20 @@
 //! A history's subscription whose durable store fails while it accepts, until it is resumed. The
 //! store of the tests keeps nothing: what it would have then is made anew.
 
+use crate::entered::{APPLIERS, Entered};
 use crate::history::{History, Said, made};
 use crate::subscribing::accepted;
 use cs_apply::Tables;
-use par_apply::{DurableRows, Open, RowChange};
+use par_apply::{DurableRows, RowChange};
 use rb_broker::{Broker, Hall, RefusedResume, ResumeError};
-use rb_subscriber::{Lost, Subscription, Workers};
+use rb_subscriber::{DurableError, Lost, Subscription, Workers};
 use std::alloc::Global;
 use std::sync::Wait;
 use std::test::Fail;
 use std::thread::Threads;
 
-/// A store that keeps nothing, and promises nothing. Its second commit fails.
+/// A store that keeps nothing, and promises nothing. Its second commit fails; its error is how often
+/// it was asked.
 #[derive(Drop)]
 pub struct FailingStore {
     pub commits: u64,
@@ -25,11 +27,15 @@ impl DurableRows for FailingStore {
 
     ghost failed = { λ _ _ _ _ _. Unit {0} };
 
-    type Error = ();
+    type Error = u64;
 
-    fn commit(&mut self, _changes: &[RowChange], _cursor: u64) -> Result<(), ()> {
+    fn commit(&mut self, _changes: &[RowChange], _cursor: u64) -> Result<(), u64> {
         self.commits = self.commits.wrapping_add(1);
-        if self.commits == 2 { Err(()) } else { Ok(()) }
+        if self.commits == 2 {
+            Err(self.commits)
+        } else {
+            Ok(())
+        }
     }
 }
 
@@ -44,13 +50,19 @@ impl<L: Hall> History<L> {
     ) -> Result<Said, Fail> {
         let delivery = *made(self.deliveries.get(delivery))?;
         let subscription = made(self.subscriptions.get_mut(sub))?;
+        let entered = Entered::none();
         let workers = Workers {
             rt,
-            n: 2,
-            gate: &Open,
+            n: APPLIERS,
+            gate: &entered,
         };
         let (sequence, store) = (self.broker.sequence(), &mut self.store);
-        accepted(subscription.accept_durable(&workers, alloc, sequence, store, &delivery))
+        match subscription.accept_durable(&workers, alloc, sequence, store, &delivery) {
+            Ok(_) if !entered.have_all() => Err(Fail::new("each applier has a shard")),
+            Ok(cursor) => Ok(Said::Accepted(cursor)),
+            Err(DurableError::Accept(why)) => accepted(Err(why)),
+            Err(DurableError::Store(asked)) => Ok(Said::StoreFailed(asked)),
+        }
     }
 
     /// Gives up the last subscription, which has fallen.

@@ -3,11 +3,11 @@
 
 ghost use Rattle.std.specs.Prelude.{◌≡◌};
 
-use crate::given::opened;
+use crate::given::{insert, opened};
 use crate::history::{History, Said};
 use crate::rows::{
-    A_LATE_CLOCK_IS_NO_EARLIER_ONE, A_NEW_LINK_AT_THE_FRONT, A_NEW_LINK_CUTS_ANEW,
-    A_REFUSED_BATCH_IS_OPENED, CLOSED_BEFORE_THE_TAKES, CLOSED_SEQUENCE,
+    A_CONFLICT_IS_NO_FALL, A_LATE_CLOCK_IS_NO_EARLIER_ONE, A_NEW_LINK_AT_THE_FRONT,
+    A_NEW_LINK_CUTS_ANEW, A_REFUSED_BATCH_IS_OPENED, CLOSED_BEFORE_THE_TAKES, CLOSED_SEQUENCE,
     FOREIGN_DELIVERIES_ARE_REFUSED, FULL_INTAKE, LEFT, MOST_IN_A_BATCH, MOST_WAITING,
     ONE_MORE_AND_THE_LAST, RESUMED_FROM_AFTER, RESUMED_FROM_BEFORE, Row, SEGMENT,
     THE_WINDOW_AND_THE_FLOOR, THREE_SEGMENTS, UNFINISHED, WHAT_EXPIRES_IS_DELIVERED_AGAIN,
@@ -56,7 +56,11 @@ fn deliveries(rt: HostRuntime) -> Result<(), Fail> {
 
 #[test]
 fn resumptions(rt: HostRuntime) -> Result<(), Fail> {
-    for row in [RESUMED_FROM_BEFORE, RESUMED_FROM_AFTER] {
+    for row in [
+        RESUMED_FROM_BEFORE,
+        RESUMED_FROM_AFTER,
+        A_CONFLICT_IS_NO_FALL,
+    ] {
         history(&rt, rt.alloc(), row)?;
     }
     Ok(())
@@ -203,8 +207,8 @@ fn counts<L: Hall, R: Wait + Abort>(
     Ok(())
 }
 
-// Empty changesets fill two segments and the one cell of the third. Then the sequence is full. A
-// subscription accepts all of it, in deliveries of as many as there may be.
+// Changesets fill two segments and the one cell of the third. Then the sequence is full. A
+// subscription accepts all of it, in deliveries of as many as there may be, and it closes.
 fn fills<L: Hall, R: Threads + Wait + Abort + Sync>(
     rt: &R,
     alloc: Global,
@@ -212,7 +216,8 @@ fn fills<L: Hall, R: Threads + Wait + Abort + Sync>(
 ) -> Result<(), Fail> {
     for number in 1..=THREE_SEGMENTS {
         assert!(rt; history.broker.sequence().get(number).is_none());
-        assert_eq!(rt; placed(history.put(rt, alloc, b"")?), Some(number));
+        let text = filling(alloc, number)?;
+        assert_eq!(rt; placed(history.put(rt, alloc, &text)?), Some(number));
     }
     for number in [1, SEGMENT, SEGMENT + 1, 2 * SEGMENT, THREE_SEGMENTS] {
         let sequence = history.broker.sequence();
@@ -224,6 +229,18 @@ fn fills<L: Hall, R: Threads + Wait + Abort + Sync>(
     accepts_all(rt, alloc, history)
 }
 
+// The first entries of two deliveries insert a hundred rows each. All others change nothing.
+fn filling(alloc: Global, number: u64) -> Result<Vec<u8>, Fail> {
+    let mut text = Vec::new(alloc);
+    if number == 1 || number == MOST_IN_A_BATCH + 1 {
+        for key in 0..100_u64 {
+            text.extend_from_slice(&insert(number.saturating_add(key)))?;
+        }
+    }
+    Ok(text)
+}
+
+// the first delivery into the store, too
 fn accepts_all<L: Hall, R: Threads + Wait + Abort + Sync>(
     rt: &R,
     alloc: Global,
@@ -234,15 +251,21 @@ fn accepts_all<L: Hall, R: Threads + Wait + Abort + Sync>(
         let before = batch.saturating_mul(MOST_IN_A_BATCH);
         let (number, first) = (batch.saturating_add(1), before.saturating_add(1));
         let upto = THREE_SEGMENTS.min(before.saturating_add(MOST_IN_A_BATCH));
+        let accept = if batch == 0 { "durable" } else { "accept" };
         let lines = format!(in alloc;
             "\
 take 0 0 = Delivery({number}, 0, {first}, {upto})
-accept 0 {batch} = Accepted({upto})
+{accept} 0 {batch} = Accepted({upto})
 ack 0 {batch} = Floor({upto})"
         )?;
         history.run(rt, alloc, &lines)?;
     }
-    history.run(rt, alloc, "subscribe 131073 = Made")
+    history.run(rt, alloc, "subscribe 131073 = Made")?;
+    history.run(
+        rt,
+        alloc,
+        "close = Closed(131073)\ntake 0 0 = Drained(131073)",
+    )
 }
 
 // the number that was placed

@@ -61,6 +61,8 @@ pub enum Said {
     NotResumed(ResumeError),
     Desk(DeskRefusal),
     Refused(AcceptRefusal),
+    /// How often the store was asked that failed.
+    StoreFailed(u64),
     Memory,
     /// No call has this name.
     Unknown,

@@ -9,6 +9,8 @@ mod courses;
 #[cfg(test)]
 mod embedding;
 #[cfg(test)]
+mod entered;
+#[cfg(test)]
 mod falling;
 #[cfg(test)]
 mod given;

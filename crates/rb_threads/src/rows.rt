@@ -280,7 +280,7 @@ take 0 0 = Delivery(1, 0, 2, 3)
 take 0 0 = Delivery(2, 0, 4, 5)
 take 0 0 = Delivery(3, 0, 6, 7)
 durable 0 0 = Accepted(3)
-durable 0 1 = Refused(Store)
+durable 0 1 = StoreFailed(2)
 durable 0 0 = Refused(Store)
 durable 0 1 = Refused(Store)
 durable 0 2 = Refused(Store)
@@ -307,6 +307,19 @@ ack 0 4 = Floor(7)",
     8,
 );
 
+pub const A_CONFLICT_IS_NO_FALL: Row = (
+    (1, 4, 16, 4),
+    b"\
+put 1 = Placed(1)
+put 1 = Placed(2)
+subscribe 0 = Made
+take 0 0 = Delivery(1, 0, 1, 1)
+durable 0 0 = Accepted(1)
+take 0 0 = Delivery(2, 0, 2, 2)
+durable 0 1 = Refused(Conflict(Conflict { position: 0, kind: Conflict }))",
+    2,
+);
+
 // The resumption is the step for which the journal needs its second piece of memory: four steps and
 // 1,019 came before, placements aside.
 pub const RESUMED_FROM_AFTER: Row = (
@@ -324,7 +337,7 @@ take 0 0 = Delivery(1, 0, 2, 3)
 take 0 0 = Delivery(2, 0, 4, 5)
 take 0 0 = Delivery(3, 0, 6, 7)
 durable 0 0 = Accepted(3)
-durable 0 1 = Refused(Store)
+durable 0 1 = StoreFailed(2)
 fall = Fell(3, 5, 2)
 expires 0 1019 = Expired(0)
 resume 5 5 = Link(2)

@@ -1,9 +1,9 @@
 //! Calls of a history's subscriptions.
 
+use crate::entered::{APPLIERS, Entered};
 use crate::history::{History, Said, made};
 use cs_apply::Tables;
 use cs_model::Schema;
-use par_apply::Open;
 use rb_broker::{Hall, RefusedSubscription, SubscribeError, TakeError};
 use rb_desk::Delivery;
 use rb_subscriber::{AcceptRefusal, Shown, SubscriptionError, Workers};
@@ -97,7 +97,7 @@ impl<L: Hall> History<L> {
         ))
     }
 
-    // Every second delivery that was made is applied by two appliers.
+    // Every second delivery that was made is applied by appliers.
     fn accept<R: Threads + Sync>(
         &mut self,
         rt: &R,
@@ -111,12 +111,17 @@ impl<L: Hall> History<L> {
         if delivery % 2 == 0 {
             return accepted(subscription.accept_alone(alloc, sequence, &taken));
         }
+        let entered = Entered::none();
         let workers = Workers {
             rt,
-            n: 2,
-            gate: &Open,
+            n: APPLIERS,
+            gate: &entered,
         };
-        accepted(subscription.accept(&workers, alloc, sequence, &taken))
+        let answer = subscription.accept(&workers, alloc, sequence, &taken);
+        if answer.is_ok() && !entered.have_all() {
+            return Err(Fail::new("each applier has a shard"));
+        }
+        accepted(answer)
     }
 
     fn ack<R: Wait>(

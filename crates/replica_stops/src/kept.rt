@@ -13,7 +13,7 @@ use cs_apply::Tables;
 use par_apply::Open;
 use rb_broker::{Broker, Hall, RefusedResume, ResumeError, TakeError};
 use rb_desk::{DeskError, DeskRefusal};
-use rb_subscriber::{AcceptRefusal, Lost, Subscription, SubscriptionError, Workers};
+use rb_subscriber::{DurableError, Lost, Subscription, Workers};
 use replica_store::{Replica, ReplicaError};
 use sqlite::{Alter, Connection};
 use std::alloc::Global;
@@ -141,7 +141,7 @@ pub fn accept_next<L: Hall, S: Alter + Drop, R: Wait + Threads + Sync>(
     };
     match subscription.accept_durable(&workers, alloc, broker.sequence(), replica, &delivery) {
         Ok(_) => Ok(true),
-        Err(SubscriptionError::Refused(AcceptRefusal::Store)) => Ok(false),
+        Err(DurableError::Store(_)) => Ok(false),
         Err(_) => Err(io::Error::other("a delivery is refused")),
     }
 }

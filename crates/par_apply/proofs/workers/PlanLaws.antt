@@ -119,6 +119,14 @@ module _ (old : TableState) (sections : List Section) (n : ℕ) (some : 0 < n) w
       (λ i. applied_part old (of_shard (shard_number n) i) sections) all old.rows n law below rs long each ok))
   plan_ok keeps have rs (Err e) long each is = tt
 
+  -- the changes of all workers, if none of them refused, are each of another key
+  pub answers_distinct : (rs : List WorkerAnswer) → length rs ≡ n → EachPart rs → first_error_from None rs ≡ None
+      → IsDistinct same_key (keys_of (changes_answered rs))
+  answers_distinct rs long each ok =
+      subst (λ (changes : RowChanges). IsDistinct same_key (keys_of changes)) (sym (answered_joined rs))
+      (all_planned (shard_number n) (λ i. applied_part old (of_shard (shard_number n) i) sections) all old.rows n law
+      below rs long each ok).distinct
+
   reports_all : (e : ApplyError) → ReportsConflict e all → ReportsConflict e (single old sections)
   reports_all Memory h = tt
   reports_all (Conflict c) h = ap (with_rows old) h

@@ -12,12 +12,14 @@ use Rattle.rb_sequence.specs.Entry.{Entry}
 use Rattle.rb_subscriber.specs.Accept.{accept_brought, applied, applied_if_admitted, first_outside_entry, joined_bodies}
 use Rattle.rb_subscriber.specs.Accept.{refusal_before, taken_unless_refused}
 use Rattle.rb_subscriber.specs.AcceptShown.{DueAnswers, RefusesFirst, ShownAnswers}
-use Rattle.rb_subscriber.specs.Durable.{DurableAnswers}
+use Rattle.rb_subscriber.specs.Durable.{DurableAnswers, durable_by}
 use Rattle.rb_subscriber.specs.Endpoint.{Endpoint}
 use Rattle.rb_subscriber.specs.Shown.{entries_told, tokens_shown}
 use Rattle.rb_subscriber.specs.Subscription.{SubscriptionState, own_endpoint}
 use Rattle.rb_subscriber.specs.declared.refusal.AcceptRefusal.{AcceptRefusal}
 use Rattle.rb_subscriber.specs.declared.refusal.AcceptRefusal.TheVariants as refusal
+use Rattle.rb_subscriber.specs.declared.refusal.DurableError.{DurableError}
+use Rattle.rb_subscriber.specs.declared.refusal.DurableError.TheVariants as durable
 use Rattle.rb_subscriber.specs.declared.refusal.SubscriptionError.{SubscriptionError}
 use Rattle.rb_subscriber.specs.declared.refusal.SubscriptionError.TheVariants.{Refused, RefusedEntries}
 use Rattle.rb_subscriber.specs.declared.shown.Shown.{Shown}
@@ -27,6 +29,7 @@ use Rattle.rb_drive.specs.declared.ending.Settling.{Settling}
 use Rattle.rb_drive.specs.declared.ending.SubscriberEnd.{SubscriberEnd}
 use Rattle.rb_drive.specs.declared.ending.SubscriberEnd.TheVariants as way
 use Rattle.rb_drive.specs.Ending.{EndsByRefusal, HasShownConflict, ShowsConflict, ShowsOneConflict}
+use Rattle.rb_drive.specs.Kept.{without_store}
 use Rattle.rb_drive.specs.Outcome.{IsEndAt}
 
 -- ---- what an accept says
@@ -87,12 +90,26 @@ shown_shows cells delivery result old new answers = λ conflict shown is one.
     shows_by cells delivery conflict shown old new (refusal_before (own_endpoint old) delivery) refl
     (subst (λ (r : Result ℕ SubscriptionError). ShownAnswers cells delivery r old new) is answers) one
 
-pub durable_shows : (cells : Cells) (delivery : Delivery) (result : Result ℕ SubscriptionError)
+-- a store's error is no conflict, and any other error is one without the store
+answers_without : {E : Type 0} (cells : Cells) (delivery : Delivery) (result : Result ℕ (DurableError E))
+    (conflict : Conflict) (shown : Shown) (old new : SubscriptionState) (before : Option AcceptRefusal)
+    → without_store result ≡ Refusing conflict shown → durable_by before cells delivery result old new
+    → RefusesFirst before (DueAnswers cells delivery (Refusing conflict shown) old new) (Refusing conflict shown) old new
+answers_without cells delivery (Ok cursor) conflict shown old new before is answers = absurd cc
+answers_without cells delivery (Err (durable.Store why)) conflict shown old new before is answers = absurd cc
+answers_without cells delivery (Err (durable.Accept why)) conflict shown old new None is answers =
+    subst (λ (r : Result ℕ SubscriptionError). DueAnswers cells delivery r old new) is answers
+answers_without {E} cells delivery (Err (durable.Accept why)) conflict shown old new (Some first) is answers =
+    let both : Err (durable.Accept why) ≡ Err (durable.Accept (Refused first)) = answers.0 in
+    let same : why ≡ Refused first = cc in (sym is ∙ ap (λ (w : SubscriptionError). Err w) same, answers.1)
+
+pub durable_shows : {E : Type 0} (cells : Cells) (delivery : Delivery) (result : Result ℕ (DurableError E))
     (old new : SubscriptionState) → DurableAnswers cells delivery result old new
-    → ShowsOneConflict cells delivery result new
+    → ShowsOneConflict cells delivery (without_store result) new
 durable_shows cells delivery result old new answers = λ conflict shown is one.
-    shows_by cells delivery conflict shown old new (refusal_before (own_endpoint old) delivery) refl
-    (subst (λ (r : Result ℕ SubscriptionError). DurableAnswers cells delivery r old new) is answers) one
+    let before = refusal_before (own_endpoint old) delivery in
+    shows_by cells delivery conflict shown old new before refl
+    (answers_without cells delivery result conflict shown old new before is answers) one
 
 -- a subscriber that ends by a refusal has what shows it
 ending_shows : (cells : Cells) (delivery : Delivery) (accepted : Result ℕ SubscriptionError) (s : SubscriptionState)

@@ -9,8 +9,8 @@ use Rattle.rb_subscriber.specs.Accept.{refusal_before}
 use Rattle.rb_subscriber.specs.Durable.{DurableAnswers, Falls, KeptAnswers, durable_by}
 use Rattle.rb_subscriber.specs.Subscription.{SubscriptionState, cursor_of, new_subscription, own_endpoint}
 use Rattle.rb_subscriber.specs.declared.refusal.AcceptRefusal.{AcceptRefusal}
-use Rattle.rb_subscriber.specs.declared.refusal.AcceptRefusal.TheVariants as refusal
-use Rattle.rb_subscriber.specs.declared.refusal.SubscriptionError.{SubscriptionError}
+use Rattle.rb_subscriber.specs.declared.refusal.DurableError.{DurableError}
+use Rattle.rb_subscriber.specs.declared.refusal.DurableError.TheVariants as durable
 use Rattle.rb_subscriber.specs.declared.refusal.SubscriptionError.TheVariants.{Memory, Refused, RefusedEntries, Unseen}
 use Rattle.replica_store.specs.Durable.{KeepsRows}
 use Rattle.sqlite.specs.State.{State}
@@ -23,27 +23,22 @@ falls_not cells delivery old new falls none =
     let fallen : Some falls.pending ≡ None = sym (ap (λ s. s.pending) falls.kept) ∙ none in cc
 
 -- an error changes nothing, or the subscription falls
-same_unless_fallen : (cells : Cells) (delivery : Delivery) (why : SubscriptionError) (old new : SubscriptionState)
-    → KeptAnswers cells delivery (Err why) old new → new.pending ≡ None → new ≡ old
-same_unless_fallen cells delivery (Refused refusal.Store) old new h none = absurd (falls_not cells delivery old new h none)
-same_unless_fallen cells delivery (Refused refusal.Closed) old new h none = absurd h
-same_unless_fallen cells delivery (Refused refusal.StaleLink) old new h none = absurd h
-same_unless_fallen cells delivery (Refused refusal.Seen) old new h none = absurd h
-same_unless_fallen cells delivery (Refused (refusal.Gap n)) old new h none = absurd h
-same_unless_fallen cells delivery (Refused (refusal.Shape n)) old new h none = absurd h
-same_unless_fallen cells delivery (Refused (refusal.Conflict c)) old new h none = absurd h
-same_unless_fallen cells delivery (RefusedEntries why shown) old new h none = h.0
-same_unless_fallen cells delivery (Unseen n shown) old new h none = h.0
-same_unless_fallen cells delivery (Memory shown) old new h none = h.0
+same_unless_fallen : {E : Type 0} (cells : Cells) (delivery : Delivery) (why : DurableError E)
+    (old new : SubscriptionState) → KeptAnswers cells delivery (Err why) old new → new.pending ≡ None → new ≡ old
+same_unless_fallen cells delivery (durable.Store why) old new h none = absurd (falls_not cells delivery old new h none)
+same_unless_fallen cells delivery (durable.Accept (Refused why)) old new h none = absurd h
+same_unless_fallen cells delivery (durable.Accept (RefusedEntries why shown)) old new h none = h.0
+same_unless_fallen cells delivery (durable.Accept (Unseen n shown)) old new h none = h.0
+same_unless_fallen cells delivery (durable.Accept (Memory shown)) old new h none = h.0
 
-error_leaves : (refused : Option AcceptRefusal) (cells : Cells) (delivery : Delivery) (why : SubscriptionError)
+error_leaves : {E : Type 0} (refused : Option AcceptRefusal) (cells : Cells) (delivery : Delivery) (why : DurableError E)
     (old new : SubscriptionState) → durable_by refused cells delivery (Err why) old new → new.pending ≡ None → new ≡ old
 error_leaves None cells delivery why old new h none = same_unless_fallen cells delivery why old new h none
 error_leaves (Some before) cells delivery why old new h none = h.1
 
 -- The store keeps the new subscription unless that has fallen, if it did so with the old one.
-pub still_kept : {R : Type 0} (K : R → SubscriptionState → Type 0) (cells : Cells) (delivery : Delivery)
-    (result : Result ℕ SubscriptionError) (old new : SubscriptionState) (r0 r : R)
+pub still_kept : {R E : Type 0} (K : R → SubscriptionState → Type 0) (cells : Cells) (delivery : Delivery)
+    (result : Result ℕ (DurableError E)) (old new : SubscriptionState) (r0 r : R)
     → DurableAnswers cells delivery result old new → OnOk result (K r new)
     → OnErr result (new.pending ≡ old.pending → r ≡ r0) → (old.pending ≡ None → K r0 old) → new.pending ≡ None → K r new
 still_kept K cells delivery (Ok cursor) old new r0 r answers kept unasked before none = kept

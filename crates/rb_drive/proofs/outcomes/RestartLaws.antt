@@ -19,8 +19,8 @@ use Rattle.rb_subscriber.specs.Durable.{DurableAnswers, IfFell, IsPendingOver, K
 use Rattle.rb_subscriber.specs.Shown.{ShowDelivery, entries_told}
 use Rattle.rb_subscriber.specs.Subscription.{PendingAccept, SubscriptionState, batches_told, cursor_of, own_endpoint}
 use Rattle.rb_subscriber.specs.declared.refusal.AcceptRefusal.{AcceptRefusal}
-use Rattle.rb_subscriber.specs.declared.refusal.AcceptRefusal.TheVariants as refusal
-use Rattle.rb_subscriber.specs.declared.refusal.SubscriptionError.{SubscriptionError}
+use Rattle.rb_subscriber.specs.declared.refusal.DurableError.{DurableError}
+use Rattle.rb_subscriber.specs.declared.refusal.DurableError.TheVariants as durable
 use Rattle.rb_subscriber.specs.declared.refusal.SubscriptionError.TheVariants.{Memory, Refused, RefusedEntries, Unseen}
 use Rattle.rb_subscriber.proofs.accepting.AcceptLaws.{accepted_steps}
 use Rattle.rb_subscriber.proofs.accepting.ShownLaws.{batch_on}
@@ -60,7 +60,7 @@ only_rows_change t (Ok rows) new e =
     sym same ∙ ap (λ (rs : Rows). record t { rows = rs }) (ap (λ (x : TableState). x.rows) same)
 only_rows_change t (Err conflict) new e = absurd cc
 
-kept_ends : {Kept Unasked : Type 0} (cells : Cells) (d : Delivery) (r : Result ℕ SubscriptionError)
+kept_ends : {E Kept Unasked : Type 0} (cells : Cells) (d : Delivery) (r : Result ℕ (DurableError E))
     (old new : SubscriptionState) → KeptAnswers cells d r old new → OnOk r Kept → OnErr r Unasked
     → EndsAs cells d Kept Unasked old new
 kept_ends cells d (Ok cursor) old new answers kept unasked =
@@ -72,19 +72,19 @@ kept_ends cells d (Ok cursor) old new answers kept unasked =
       kept = answers.3;
       rows_changed = only_rows_change old.tables _ new.tables accepts.tables;
     }) kept
-kept_ends cells d (Err (Refused refusal.Store)) old new answers kept unasked =
+kept_ends cells d (Err (durable.Store why)) old new answers kept unasked =
     Falls (record { pending = answers.pending; shown = answers.shown; kept = answers.kept })
-kept_ends cells d (Err (Refused why)) old new answers kept unasked = absurd answers
-kept_ends cells d (Err (RefusedEntries why shown)) old new answers kept unasked = Stays answers.0 unasked
-kept_ends cells d (Err (Unseen number shown)) old new answers kept unasked = Stays answers.0 unasked
-kept_ends cells d (Err (Memory shown)) old new answers kept unasked = Stays answers.0 unasked
+kept_ends cells d (Err (durable.Accept (Refused why))) old new answers kept unasked = absurd answers
+kept_ends cells d (Err (durable.Accept (RefusedEntries why shown))) old new answers kept unasked = Stays answers.0 unasked
+kept_ends cells d (Err (durable.Accept (Unseen number shown))) old new answers kept unasked = Stays answers.0 unasked
+kept_ends cells d (Err (durable.Accept (Memory shown))) old new answers kept unasked = Stays answers.0 unasked
 
-durable_ends : {Kept Unasked : Type 0} (before : Option AcceptRefusal) (cells : Cells) (d : Delivery)
-    (r : Result ℕ SubscriptionError) (old new : SubscriptionState) → durable_by before cells d r old new
+durable_ends : {E Kept Unasked : Type 0} (before : Option AcceptRefusal) (cells : Cells) (d : Delivery)
+    (r : Result ℕ (DurableError E)) (old new : SubscriptionState) → durable_by before cells d r old new
     → OnOk r Kept → OnErr r Unasked → EndsAs cells d Kept Unasked old new
 durable_ends None cells d r old new answers kept unasked = kept_ends cells d r old new answers kept unasked
-durable_ends {Kept} {Unasked} (Some why) cells d r old new answers kept unasked =
-    Stays answers.1 (subst (λ (x : Result ℕ SubscriptionError). OnErr x Unasked) answers.0 unasked)
+durable_ends {E} {Kept} {Unasked} (Some why) cells d r old new answers kept unasked =
+    Stays answers.1 (subst (λ (x : Result ℕ (DurableError E)). OnErr x Unasked) answers.0 unasked)
 
 -- ---- what the trees hold then
 
@@ -199,7 +199,7 @@ holds_ended cells d old new s db clean left first last none leaves over (Stays s
     holds_as_before cells d old db first
     ((unasked (ap (λ (x : SubscriptionState). x.pending) same) clean).stands db left)
 
-pub restart_holds : (cells : Cells) (d : Delivery) (r : Result ℕ SubscriptionError) (old new : SubscriptionState)
+pub restart_holds : {E : Type 0} (cells : Cells) (d : Delivery) (r : Result ℕ (DurableError E)) (old new : SubscriptionState)
     (s : State) (db : Trees) → HasCleanDisk s → s.may_leave db
     → IsShownRun cells old → IsShownRun cells new → old.pending ≡ None
     → DurableAnswers cells d r old new

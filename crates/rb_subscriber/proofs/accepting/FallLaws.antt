@@ -24,9 +24,8 @@ use Rattle.rb_subscriber.specs.Subscription.{PendingAccept, SubscriptionState, o
 use Rattle.rb_subscriber.specs.declared.keeping.KeepError.{KeepError}
 use Rattle.rb_subscriber.specs.declared.keeping.KeepError.TheVariants as keep
 use Rattle.rb_subscriber.specs.declared.refusal.AcceptRefusal.{AcceptRefusal}
-use Rattle.rb_subscriber.specs.declared.refusal.AcceptRefusal.TheVariants as refusal
-use Rattle.rb_subscriber.specs.declared.refusal.SubscriptionError.{SubscriptionError}
-use Rattle.rb_subscriber.specs.declared.refusal.SubscriptionError.TheVariants.{Refused, RefusedEntries}
+use Rattle.rb_subscriber.specs.declared.refusal.DurableError.{DurableError}
+use Rattle.rb_subscriber.specs.declared.refusal.SubscriptionError.TheVariants.{RefusedEntries}
 use Rattle.rb_subscriber.specs.declared.shown.Shown.{Shown}
 use Rattle.rb_subscriber.proofs.accepting.AcceptLaws.{none_is_due}
 use Rattle.rb_subscriber.proofs.accepting.ShownLaws.{own_as, singly_on, state_of}
@@ -45,16 +44,10 @@ refuses_none e pending d (Some why) is fell = tt
 pub if_none : (o : Option PendingAccept) (P : PendingAccept → Type 0) → o ≡ None → IfSome o P
 if_none o P is = subst (λ (p : Option PendingAccept). IfSome p P) (sym is) tt
 
--- ---- `Store` comes from nothing but the store
+-- ---- a delivery that isn't refused before its entries are asked
 
--- so the answers without a store are those with one that doesn't fail
-pub due_kept : (cells : Cells) (d : Delivery) (result : Result ℕ SubscriptionError) (old new : SubscriptionState)
-    → DueAnswers cells d result old new → KeptAnswers cells d result old new
-due_kept cells d (Err (Refused refusal.Store)) old new due = absurd due
-due_kept cells d result old new due = due
-
--- and those of a delivery that isn't refused before its entries are asked
-pub durable_free : (cells : Cells) (d : Delivery) (result : Result ℕ SubscriptionError) (old new : SubscriptionState)
+pub durable_free : {E : Type 0} (cells : Cells) (d : Delivery) (result : Result ℕ (DurableError E))
+    (old new : SubscriptionState)
     → None ≡ refusal_before (own_endpoint old) d → KeptAnswers cells d result old new
     → DurableAnswers cells d result old new
 durable_free cells d result old new free answers =
@@ -150,17 +143,17 @@ refused_here cells d sub steps base batches before told kept shown e new why s s
     (back, are, ap (λ (x : Endpoint). accept_brought x (entries_told (tokens_shown shown)) d) own ∙ refuses)
 
 -- the same, where the cells and the entries stand elsewhere
-pub refused_kept : (cells sequence : Cells) (d : Delivery) (sub steps : ℕ) (base : TableState)
+pub refused_kept : {E : Type 0} (cells sequence : Cells) (d : Delivery) (sub steps : ℕ) (base : TableState)
     (batches : List (List CellToken)) (before : Option PendingAccept) (told kept : List CellToken) (shown : Shown) (entries : List Entry)
-    (e new : Endpoint) (fault : KeepError) (why : AcceptRefusal) (s : SubscriptionState)
+    (e new : Endpoint) (fault : KeepError E) (why : AcceptRefusal) (s : SubscriptionState)
     → state_of sub steps base batches before e told ≡ s → kept ≡ told
     → e.cursor ≡ e.start + length told → e.fallen ≡ is_some before
     → sequence ≡ cells → ShowDelivery sequence d (tokens_shown shown) → entries ≡ entries_told (tokens_shown shown)
     → fault ≡ keep.Refused why → KeepAnswers (Err fault) (accept_brought e entries d) e new
-    → KeptAnswers cells d (Err (RefusedEntries why shown)) s (state_of sub steps base batches before new kept)
+    → DueAnswers cells d (Err (RefusedEntries why shown)) s (state_of sub steps base batches before new kept)
 refused_kept cells sequence d sub steps base batches before told kept shown entries e new fault why s seen same at fell
     here shows back is answers =
-    let refuses = subst (λ (x : KeepError). KeepAnswers (Err x) (accept_brought e entries d) e new) is answers in
+    let refuses = subst (λ (x : KeepError _). KeepAnswers (Err x) (accept_brought e entries d) e new) is answers in
     refused_here cells d sub steps base batches before told kept shown e new why s seen same at fell
     (subst (λ cs. ShowDelivery cs d (tokens_shown shown)) here shows)
     (subst (λ es. accept_brought e es d ≡ Err why) back refuses.0) refuses.1

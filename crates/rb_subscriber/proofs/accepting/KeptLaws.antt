@@ -37,8 +37,8 @@ asked old entries d r free none is = asked_of old entries d None free none ∙ a
 -- ---- the call
 
 -- the answers of an accept that only the store can stop
-pub committed_answers : (old new : Endpoint) (last : ℕ) (changes : RowChanges)
-    (accepted : Result Endpoint AcceptRefusal) (result : Result ℕ KeepError)
+pub committed_answers : {E : Type 0} (old new : Endpoint) (last : ℕ) (changes : RowChanges)
+    (accepted : Result Endpoint AcceptRefusal) (result : Result ℕ (KeepError E))
     → accepted ≡ Ok (record old { cursor = last; tables = changed_tables old.tables changes })
     → IfOk result (λ cursor. (cursor ≡ last)
     × (new ≡ record old { cursor = last; tables = changed_tables old.tables changes }))
@@ -50,7 +50,7 @@ committed_answers old new last changes accepted (Ok cursor) is ok other same fel
 committed_answers old new last changes accepted (Err (keep.Refused why)) is ok other same fell = absurd other
 committed_answers old new last changes accepted (Err keep.Memory) is ok other same fell =
     (subst AsksTables (sym is) tt, same)
-committed_answers old new last changes accepted (Err (keep.Store plan)) is ok other same fell = record {
+committed_answers old new last changes accepted (Err (keep.Store plan why)) is ok other same fell = record {
   after = record old { cursor = last; tables = changed_tables old.tables changes };
   accepts = is;
   changed = ap (changed_tables old.tables) (sym fell.0);
@@ -85,23 +85,23 @@ conflicts_here old entries d now found conflict law free none known same is repo
     let here = subst (λ (t : TableState). single t group ≡ Err conflict) same there in
     law conflict known.0 known.1 (asked old entries d (Err conflict) free none here)
 
-kept_singly : (old new : Endpoint) (entries : List Entry) (d : Delivery) (result : Result ℕ KeepError)
+kept_singly : {E : Type 0} (old new : Endpoint) (entries : List Entry) (d : Delivery) (result : Result ℕ (KeepError E))
     → AppliesAsSingly old entries d → KeepAnswers result (accept_brought old entries d) old new
     → OnKeepTables result (AreChangesets entries × HaveColumns old.tables)
     → OnOk result (HasSingleTables old.tables entries new.tables)
 kept_singly old new entries d (Ok cursor) law answers known = λ tables. law new tables known.0 known.1 answers.0
 kept_singly old new entries d (Err why) law answers known = tt
 
-pending_singly : (old new : Endpoint) (entries : List Entry) (d : Delivery) (result : Result ℕ KeepError)
+pending_singly : {E : Type 0} (old new : Endpoint) (entries : List Entry) (d : Delivery) (result : Result ℕ (KeepError E))
     → AppliesAsSingly old entries d → KeepAnswers result (accept_brought old entries d) old new
     → OnKeepTables result (AreChangesets entries × HaveColumns old.tables)
     → IfStoreFailed result (λ plan. HasSingleTables old.tables entries
     (changed_tables old.tables (planned_changes plan)))
-pending_singly old new entries d (Err (keep.Store plan)) law answers known = λ tables singly.
+pending_singly old new entries d (Err (keep.Store plan why)) law answers known = λ tables singly.
     sym answers.changed ∙ law answers.after tables known.0 known.1 answers.accepts singly
 pending_singly old new entries d result law answers known = tt
 
-kept_conflicts : (old new : Endpoint) (entries : List Entry) (d : Delivery) (result : Result ℕ KeepError)
+kept_conflicts : {E : Type 0} (old new : Endpoint) (entries : List Entry) (d : Delivery) (result : Result ℕ (KeepError E))
     → ConflictsAsSingly old entries d
     → KeepAnswers result (accept_brought old entries d) old new
     → OnKeepTables result (AreChangesets entries × HaveColumns old.tables)
@@ -111,20 +111,20 @@ kept_conflicts old new entries d (Err (keep.Refused (refusal.Conflict conflict))
 kept_conflicts old new entries d result law answers known = tt
 
 -- what is known where the tables are reached, whatever the result is
-pub asked_tables : (result : Result ℕ KeepError) (P : Type 0) → P → OnKeepTables result P
+pub asked_tables : {E : Type 0} (result : Result ℕ (KeepError E)) (P : Type 0) → P → OnKeepTables result P
 asked_tables (Ok cursor) P known = known
 asked_tables (Err (keep.Refused (refusal.Conflict conflict))) P known = known
-asked_tables (Err (keep.Store plan)) P known = known
+asked_tables (Err (keep.Store plan why)) P known = known
 asked_tables result P known = tt
 
 -- what the laws say of an accept, whatever its result is
-pub record KeptSingly (old new : Endpoint) (entries : List Entry) (result : Result ℕ KeepError) : Type 0 where
+pub record KeptSingly {E : Type 0} (old new : Endpoint) (entries : List Entry) (result : Result ℕ (KeepError E)) : Type 0 where
   pub singly : OnOk result (HasSingleTables old.tables entries new.tables)
   pub conflicts : OnKeepConflict result (ConflictsSingly old.tables entries)
   pub pending : IfStoreFailed result (λ plan. HasSingleTables old.tables entries
       (changed_tables old.tables (planned_changes plan)))
 
-pub kept_as_singly : (old new : Endpoint) (entries : List Entry) (d : Delivery) (result : Result ℕ KeepError)
+pub kept_as_singly : {E : Type 0} (old new : Endpoint) (entries : List Entry) (d : Delivery) (result : Result ℕ (KeepError E))
     → AppliesAsSingly old entries d → ConflictsAsSingly old entries d
     → KeepAnswers result (accept_brought old entries d) old new
     → OnKeepTables result (AreChangesets entries × HaveColumns old.tables) → KeptSingly old new entries result

@@ -1,6 +1,8 @@
+use Rattle.std.proofs.Common.{subst, sym}
 use Rattle.sqlite.specs.Held.{state}
 use Rattle.replica_store.specs.Durable.{KeepsRows}
 use Rattle.rb_subscriber.specs.Subscription.{cursor_of}
+use Rattle.rb_drive.specs.Ending.{ShowsOneConflict}
 use Rattle.rb_drive.proofs.outcomes.ConflictLaws.{durable_shows}
 use Rattle.rb_drive.proofs.outcomes.KeptLaws.{still_kept}
 use Rattle.rb_drive.proofs.kept.accept_both.Goals as goal
@@ -12,4 +14,6 @@ returns-clause-kept g c =
     c.accept_durable.ensures.answers c.accept_durable.ensures.kept c.accept_durable.ensures.unasked c.requires.kept
 
 pub returns-clause-conflict : goal.returns-clause-conflict
-returns-clause-conflict g c = durable_shows _ _ c.accept_durable.result _ _ c.accept_durable.ensures.answers
+returns-clause-conflict g c =
+    subst (λ r. ShowsOneConflict g.L.StepLedger.cells c.args.delivery.now r c.accept_durable.new.self) (sym c.without_store.ensures)
+    (durable_shows _ _ c.accept_durable.result _ _ c.accept_durable.ensures.answers)

@@ -11,4 +11,4 @@ returns c =
     leads_decide c.args.before.now c.args.after.now (planned_changes c.args.self.now) c.is_changed_to.result
     (subst
     (λ (changes : RowChanges). Decides c.is_changed_to.result (IsChanged c.args.before.now changes c.args.after.now))
-    c.changes.ensures c.is_changed_to.ensures)
+    c.changes.ensures.changes c.is_changed_to.ensures)

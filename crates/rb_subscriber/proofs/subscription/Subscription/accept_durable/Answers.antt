@@ -1,4 +1,4 @@
-use Rattle.std.proofs.Common.{◌≡◌, ◌<◌, ◌≤◌, suc, Some, Ok, Err, sym, ap, ◌∙◌, subst, arith}
+use Rattle.std.proofs.Common.{◌≡◌, ◌<◌, ◌≤◌, suc, Some, Ok, Err, refl, sym, ap, ◌∙◌, subst, arith}
 use Rattle.std.proofs.lemmas.Result.{err_from_is_err_and}
 use Rattle.std.specs.List.{IsDistinct}
 use Rattle.std.specs.Map.{keys_of}
@@ -10,17 +10,17 @@ use Rattle.par_apply.specs.Durable.{changed_tables}
 use Rattle.par_apply.specs.Planned.{RowsFit, planned_changes}
 use Rattle.rb_subscriber.specs.Accept.{accept_brought, HasSingleTables, joined_bodies}
 use Rattle.rb_subscriber.specs.Batches.{HasBatchTables}
-use Rattle.rb_subscriber.specs.Durable.{IfStoreFailed, KeepAnswers}
+use Rattle.rb_subscriber.specs.Durable.{IfStoreFailed, KeepAnswers, KeptAnswers}
 use Rattle.rb_subscriber.specs.Endpoint.{Endpoint}
 use Rattle.rb_subscriber.specs.Shown.{AreTokens, ShowDelivery, entries_told}
 use Rattle.rb_subscriber.specs.Subscription.{SubscriptionState, batches_told, cursor_of}
 use Rattle.rb_subscriber.specs.declared.keeping.KeepError.{KeepError}
-use Rattle.rb_subscriber.specs.declared.refusal.AcceptRefusal.TheVariants as refusal
-use Rattle.rb_subscriber.specs.declared.refusal.SubscriptionError.{SubscriptionError}
-use Rattle.rb_subscriber.specs.declared.refusal.SubscriptionError.TheVariants.{Refused, RefusedEntries}
+use Rattle.rb_subscriber.specs.declared.refusal.DurableError.{DurableError}
+use Rattle.rb_subscriber.specs.declared.refusal.DurableError.TheVariants as durable
+use Rattle.rb_subscriber.specs.declared.refusal.SubscriptionError.TheVariants.{RefusedEntries}
 use Rattle.rb_subscriber.specs.declared.shown.Shown.TheVariants as shown
 use Rattle.rb_subscriber.proofs.accepting.AcceptLaws.{accepted_steps}
-use Rattle.rb_subscriber.proofs.accepting.FallLaws.{due_kept, durable_free, fell_holds, if_none, it_falls, last_shown, pending_over, refused_kept}
+use Rattle.rb_subscriber.proofs.accepting.FallLaws.{durable_free, fell_holds, if_none, it_falls, last_shown, pending_over, refused_kept}
 use Rattle.rb_subscriber.proofs.accepting.ShownLaws.{WasAccepted, batches_stay, due_ok, looked_result, state_of, was_accepted}
 use Rattle.rb_subscriber.proofs.accepting.TokenLaws.{tokens_by_place}
 use Rattle.rb_subscriber.proofs.subscription.Subscription.accept_durable.Goals as goal
@@ -29,15 +29,19 @@ pub returns-in_err-shown-clause-answers : goal.returns-in_err-shown-clause-answe
 returns-in_err-shown-clause-answers g c =
     let s = c.self.inside in
     let old = c.args.self.now in
+    let cells = g.L.StepLedger.cells in
+    let d = c.args.delivery.now in
     let p = err_from_is_err_and c.from_residual.result c.from_residual.ensures.1 in
     let schema = c.schema-schema.ensures.same ∙ ap (λ (t : TableState). t.schema) c.tables.ensures
     ∙ ap (λ (x : SubscriptionState). x.tables.schema) c.self.view_is in
-    durable_free g.L.StepLedger.cells c.args.delivery.now c.from_residual.result old _ c.in_default.ensures.why
-    (due_kept g.L.StepLedger.cells c.args.delivery.now c.from_residual.result old _
-    (looked_result g.L.StepLedger.cells c.args.sequence.now c.args.delivery.now c.schema-schema.result.now old
-    (state_of s.sub s.steps s.base.value s.batches.list s.pending s.end c.tokens_of.new.told.items) c.from_residual.result
-    c.in_err-shown.field-0.0 (p.1 ∙ ap (λ (e : SubscriptionError). Err e) p.2) c.requires.cells schema (sym c.in_default.ensures.why)
-    (ap (state_of s.sub s.steps s.base.value s.batches.list s.pending s.end) c.tokens_of.ensures.same ∙ c.self.view_is) c.in_err-shown.ensures.err))
+    let why = c.in_err-shown.field-0.0 in
+    let new = state_of s.sub s.steps s.base.value s.batches.list s.pending s.end c.tokens_of.new.told.items in
+    durable_free cells d c.from_residual.result old new c.in_default.ensures.why
+    (subst (λ r. KeptAnswers cells d r old new) (sym (p.1 ∙ ap (λ (e : DurableError _). Err e) p.2))
+    (looked_result cells c.args.sequence.now d c.schema-schema.result.now old new (Err why) why refl c.requires.cells schema
+    (sym c.in_default.ensures.why)
+    (ap (state_of s.sub s.steps s.base.value s.batches.list s.pending s.end) c.tokens_of.ensures.same ∙ c.self.view_is)
+    c.in_err-shown.ensures.err))
 
 pub invariant_of-entries : goal.invariant_of-entries
 invariant_of-entries g c = record {
@@ -93,7 +97,8 @@ pub returns-in-Err-Refused-clause-answers : goal.returns-in-Err-Refused-clause-a
 returns-in-Err-Refused-clause-answers g c =
     let s = c.self.inside in
     let back = shown.Held c.in_ok-shown.shown in
-    durable_free g.L.StepLedger.cells c.args.delivery.now (Err (RefusedEntries c.in-Err-Refused.why back)) c.args.self.now
+    durable_free g.L.StepLedger.cells c.args.delivery.now (Err (durable.Accept (RefusedEntries c.in-Err-Refused.why back)))
+    c.args.self.now
     (state_of s.sub s.steps s.base.value s.batches.list s.pending c.accept_kept.new.self c.tokens_of.new.told.items) c.in_default.ensures.why
     (refused_kept g.L.StepLedger.cells c.args.sequence.now c.args.delivery.now s.sub s.steps s.base.value s.batches.list
     s.pending s.told.items
@@ -117,13 +122,13 @@ invariant_of-self-in-Err-Store g c =
     let next : d.first ≡ suc s.end.cursor = due.0 ∙ ap suc (sym inv.0) in
     let some : suc s.end.cursor ≤ d.last = omega (arith, due.1, inv.0) in
     let is = c.in-Err-Store.field-0-is in
-    let falls = subst (λ (x : KeepError). KeepAnswers (Err x) (accept_brought s.end (entries_told c.deref.result.now) d)
+    let falls = subst (λ (x : KeepError _). KeepAnswers (Err x) (accept_brought s.end (entries_told c.deref.result.now) d)
     s.end new) is c.in-Err-Store.ensures.answers in
-    let fit = subst (λ (x : KeepError). IfStoreFailed (Err x) (λ plan. RowsFit s.end.tables (planned_changes plan))) is
+    let fit = subst (λ (x : KeepError _). IfStoreFailed (Err x) (λ plan. RowsFit s.end.tables (planned_changes plan))) is
     c.in-Err-Store.ensures.fit in
-    let distinct = subst (λ (x : KeepError). IfStoreFailed (Err x)
+    let distinct = subst (λ (x : KeepError _). IfStoreFailed (Err x)
     (λ plan. IsDistinct same_key (keys_of (planned_changes plan)))) is c.in-Err-Store.ensures.distinct in
-    let pending = subst (λ (x : KeepError). IfStoreFailed (Err x) (λ plan. HasSingleTables s.end.tables
+    let pending = subst (λ (x : KeepError _). IfStoreFailed (Err x) (λ plan. HasSingleTables s.end.tables
     (entries_told c.deref.result.now) (changed_tables s.end.tables (planned_changes plan)))) is
     c.in-Err-Store.ensures.pending in
     let back = ap entries_told c.deref.ensures.value in
@@ -160,9 +165,9 @@ returns-in-Err-Store-clause-answers g c =
     let shown = c.in_ok-shown.shown.items in
     let inv = c.self.invariant in
     let are = subst (λ cs. ShowDelivery cs d shown) c.requires.cells c.in_ok-shown.ensures.ok in
-    let falls = subst (λ (x : KeepError). KeepAnswers (Err x) (accept_brought s.end (entries_told c.deref.result.now) d)
+    let falls = subst (λ (x : KeepError _). KeepAnswers (Err x) (accept_brought s.end (entries_told c.deref.result.now) d)
     s.end c.accept_kept.new.self) c.in-Err-Store.field-0-is c.in-Err-Store.ensures.answers in
-    durable_free cells d (Err (Refused refusal.Store)) c.args.self.now
+    durable_free cells d (Err (durable.Store c.in-Err-Store.why)) c.args.self.now
     (state_of s.sub s.steps s.base.value s.batches.list (Some (record { tokens = shown; changes = planned_changes c.in-Err-Store.plan }))
     c.accept_kept.new.self c.tokens_of.new.told.items) c.in_default.ensures.why
     (it_falls cells d s.sub s.steps s.base.value s.batches.list s.pending s.told.items c.tokens_of.new.told.items shown
