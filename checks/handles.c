@@ -5,6 +5,7 @@
 #include "changeset.h"
 #include "count.h"
 
+#include <inttypes.h>
 #include <stdio.h>
 #include <string.h>
 
@@ -120,7 +121,7 @@ static void publishes(broker *b) {
 
 static void subscribes(broker *b) {
     struct broker_delivery delivery = {7, 7, 7, 7};
-    uint64_t subscription = 7, link = 7, second = 7, count = 7;
+    uint64_t subscription = 7, link = 7, second = 7, bare = 7, count = 7;
     CALL(broker_subscribe(b, 9, &subscription, &link));
     CALL(broker_subscribe(b, 0, &subscription, &link));
     CALL(broker_subscribe(b, 1, &second, &link));
@@ -151,6 +152,16 @@ static void subscribes(broker *b) {
     note((int64_t)delivery.number);
     CALL(broker_unsubscribe(b, second));
     CALL(broker_unsubscribe(b, second));
+    /* nor has one that keeps no rows, and it accepts the delivery */
+    CALL(broker_subscribe_bare(b, 9, &bare, &link));
+    CALL(broker_subscribe_bare(b, 1, &bare, &link));
+    note((int64_t)bare);
+    note((int64_t)link);
+    take(b, bare, &delivery);
+    count = 7;
+    CALL(broker_accept(b, delivery.number, &count));
+    if (count != delivery.last) bad++, printf("a subscription without rows stands at %" PRIu64 "\n", count);
+    accept(b, delivery.number);
 }
 
 static void reads(broker *b) {
@@ -175,7 +186,7 @@ static void reads(broker *b) {
 static void rows(broker *b) {
     static const unsigned char key[] = {INTEGER(1)}, none[] = {INTEGER(2)};
     unsigned char out[100];
-    for (uint64_t subscription = 0; subscription <= 2; subscription++) {
+    for (uint64_t subscription = 0; subscription <= 3; subscription++) {
         memset(out, 0xee, sizeof out);
         CALL(broker_rows(b, subscription, out, 20));
         CALL(broker_rows(b, subscription, out, sizeof out));

@@ -94,8 +94,8 @@ enum broker_code {
     BROKER_UNKNOWN_TABLE = -20,
     /* A section has another shape than its table. Numbers: the section, from 0. */
     BROKER_SHAPE_DIFFERS = -21,
-    /* 268,435,455 steps are made. A placement takes one, and so do subscribe, take, take_any, ack, nack, nack_opened,
-     * expire, reconnect, resume, unsubscribe and the first close. */
+    /* 268,435,455 steps are made. A placement takes one, and so do subscribe, subscribe_bare, take, take_any, ack, nack,
+     * nack_opened, expire, reconnect, resume, unsubscribe and the first close. */
     BROKER_JOURNAL_FULL = -22,
 
     /* No subscription has this number. */
@@ -301,6 +301,11 @@ struct broker_delivery {
 /* Adds a subscription to the entries after `start`, with empty tables. Sets `*subscription` to its number and `*link`
  * to its link. Refused: JOURNAL_FULL, START_AHEAD, TOO_MANY. */
 BROKER_CALL int broker_subscribe(broker *b, uint64_t start, uint64_t *subscription, uint64_t *link);
+
+/* The same, but the subscription keeps no rows: broker_accept checks the order of its deliveries, applies nothing, and
+ * meets no CONFLICT. Its rows are none. It may begin at any number that is placed, since it needs no rows from before.
+ * Refused: JOURNAL_FULL, START_AHEAD, TOO_MANY. */
+BROKER_CALL int broker_subscribe_bare(broker *b, uint64_t start, uint64_t *subscription, uint64_t *link);
 
 /* Hands out a subscription's next ready entries. Refused: NO_SUBSCRIPTION, JOURNAL_FULL, CLOSED, WINDOW_FULL, DRAINED,
  * EMPTY. */

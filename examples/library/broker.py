@@ -10,9 +10,9 @@ from ctypes import byref, c_int64, c_size_t, c_uint64
 
 EMPTY, IDLE = -37, 1
 # of each call that writes numbers, how many go to each of its pointers
-NUMBERS = dict(publisher=[1], send=[1], turn=[1], close=[1], left=[1], front=[1], entry=[3], subscribe=[1, 1], take=[4],
-               take_any=[4], accept=[1], crash=[1], cursor=[1], ack=[1], nack_opened=[1], expire=[1], reconnect=[1],
-               resume=[1])
+NUMBERS = dict(publisher=[1], send=[1], turn=[1], close=[1], left=[1], front=[1], entry=[3], subscribe=[1, 1],
+               subscribe_bare=[1, 1], take=[4], take_any=[4], accept=[1], crash=[1], cursor=[1], ack=[1],
+               nack_opened=[1], expire=[1], reconnect=[1], resume=[1])
 TEXTS = 'text', 'combined', 'rows', 'row'
 
 

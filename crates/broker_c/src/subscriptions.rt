@@ -36,6 +36,29 @@ pub extern "C" fn broker_subscribe(
     )
 }
 
+/// Adds a subscription to the entries after `start` that keeps no rows: no change is applied, so
+/// nothing that it accepts conflicts, and `start` may be any number that is placed. Sets
+/// `subscription` and `link`, and returns what `broker_subscribe` does.
+#[unsafe(no_mangle)]
+pub extern "C" fn broker_subscribe_bare(
+    alloc: Global,
+    broker: &mut Handle,
+    start: u64,
+    subscription: &mut u64,
+    link: &mut u64,
+) -> i32
+    ensures { ServesLink result (event.SubscribeBare start) broker.old broker.new subscription.old
+        subscription.new link.old link.new }
+{
+    serve_link(
+        alloc,
+        broker,
+        &Event::SubscribeBare { start },
+        subscription,
+        link,
+    )
+}
+
 /// Delivers a subscription's next ready entries. Sets `taken` to the delivery. Returns 0, -30 for
 /// an unknown subscription, -14 for a closed one, -32 if its window is full, -36 if it has settled
 /// all there will be, or -37 if nothing is ready.

@@ -8,7 +8,9 @@ use crate::opening::{broker_shut, opened};
 use crate::publishers::{broker_end, broker_feed, broker_publisher, broker_send, broker_turn};
 use crate::rows::{broker_row, broker_rows};
 use crate::serving::Taken;
-use crate::subscriptions::{broker_accept, broker_ack, broker_subscribe, broker_take};
+use crate::subscriptions::{
+    broker_accept, broker_ack, broker_subscribe, broker_subscribe_bare, broker_take,
+};
 use crate::texts::{broker_combined, broker_text};
 use std::alloc::{AllocError, Global};
 use std::process::Abort;
@@ -87,6 +89,26 @@ fn tells_rows(rt: &impl Abort, alloc: Global, broker: &mut Handle) {
     assert_eq!(rt; broker_rows(alloc, broker, 1, &mut out), -30);
 }
 
+// a subscription that keeps no rows accepts the changeset, and has none
+fn keeps_none(rt: &impl Abort, alloc: Global, broker: &mut Handle) {
+    let (mut number, mut link, mut cursor) = (7, 7, 7);
+    let mut taken = Taken {
+        number: 7,
+        subscription: 7,
+        first: 7,
+        last: 7,
+    };
+    let mut out = [9u8; 26];
+    assert_eq!(rt;
+        broker_subscribe_bare(alloc, broker, 0, &mut number, &mut link),
+        0
+    );
+    assert_eq!(rt; broker_take(alloc, broker, 1, 0, &mut taken), 0);
+    assert_eq!(rt; broker_accept(alloc, broker, 2, &mut cursor), 0);
+    assert_eq!(rt; broker_rows(alloc, broker, 1, &mut out), 0);
+    assert_eq!(rt; (number, link, cursor), (1, 2, 1));
+}
+
 // a code in words
 fn says(rt: &impl Abort) {
     let mut words = [9u8; 25];
@@ -114,6 +136,7 @@ fn a_changeset_goes_through(rt: HostRuntime) -> Result<(), Fail> {
     delivers(&rt, alloc, &mut broker);
     tells(&rt, alloc, &mut broker);
     tells_rows(&rt, alloc, &mut broker);
+    keeps_none(&rt, alloc, &mut broker);
     says(&rt);
     broker_shut(alloc, &mut broker);
     Ok(())

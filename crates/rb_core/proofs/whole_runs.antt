@@ -8,3 +8,4 @@ pub mod ByText
 pub mod AcceptedCursor
 pub mod ConflictRuns
 pub mod DeskReplays
+pub mod BareRuns

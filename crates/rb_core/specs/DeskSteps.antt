@@ -32,6 +32,7 @@ step_asked old (event.Withdraw p n) = None
 step_asked old event.Turn = Some step.Place
 step_asked old event.Close = Some step.Close
 step_asked old (event.Subscribe start) = Some (step.Subscribe start)
+step_asked old (event.SubscribeBare start) = Some (step.Subscribe start)
 step_asked old (event.Take s now) =
     option_map (λ end. step.Take s end.link end.cursor now) (slice_get old.endpoints s)
 step_asked old (event.TakeAny now) = Some (step.TakeAny now)

@@ -12,7 +12,7 @@ use Rattle.rb_core.specs.declared.event.Event.{Event}
 use Rattle.rb_core.specs.declared.publisher.PublisherState.{PublisherState}
 use Rattle.rb_core.specs.Moves.{AreAllOf, HasRun, IsFront, IsSending, StaysClosed, items_of}
 use Rattle.rb_core.specs.Run.{Answer}
-use Rattle.rb_core.specs.State.{State, empty_tables}
+use Rattle.rb_core.specs.State.{State, AreTablesBegun}
 use Rattle.rb_core.specs.Told.{Paired, world_told}
 use Rattle.rb_core.specs.World.{Sender, Subscriber, endpoint_of}
 
@@ -23,11 +23,12 @@ HasTakenFed publisher sender = Took publisher.stream sender.text
 -- What a subscription accepted is a gapless run of the sequence. The broker's endpoints are those
 -- of the subscriptions: each has the start, link, mark and tables of its subscription, and its
 -- cursor is the last number that the subscription accepted. Where what a subscription accepted
--- applies singly, without conflict, to empty tables, the tables of its endpoint are what one thread
--- gets that applies it so. Whether or not it applies singly: the batches that a subscription
--- accepted, each the entries of one delivery, are its accepted entries, in order. The tables of its
--- endpoint are what the groups of the batches leave, applied to empty tables one batch after
--- another.
+-- applies singly, without conflict, to the tables that it began with, the tables of its endpoint
+-- are what one thread gets that applies it so. It began with tables of the schema without rows, all
+-- of them kept or none. Whether or not it applies singly: the batches that a subscription accepted,
+-- each the entries of one delivery, are its accepted entries, in order. The tables of its endpoint
+-- are what the groups of the batches leave, applied one batch after another to the tables that it
+-- began with.
 -- Each publisher's entries are the front of what it sent, in that order, and the rest is in hand or
 -- in the intake; each sending is placed once; each entry is a sending. Each publisher's stream has
 -- taken what the publisher was fed.
@@ -43,11 +44,14 @@ pub record KeepsHeadline (schema : List Shape) (events : List Event) (answers : 
   pub tables : (s : ℕ) (subscriber : Subscriber)
       → slice_get (world_told schema events answers).subscribers s ≡ Some subscriber
       → (end : Endpoint) × (slice_get new.endpoints s ≡ Some end)
-      × HasSingleTables (empty_tables schema) subscriber.accepted end.tables
+      × HasSingleTables subscriber.base subscriber.accepted end.tables
+  pub begun : (s : ℕ) (subscriber : Subscriber)
+      → slice_get (world_told schema events answers).subscribers s ≡ Some subscriber
+      → AreTablesBegun schema subscriber.base
   pub batches : (s : ℕ) (subscriber : Subscriber)
       → slice_get (world_told schema events answers).subscribers s ≡ Some subscriber
       → (end : Endpoint) × (slice_get new.endpoints s ≡ Some end)
-      × HasBatchTables (empty_tables schema) subscriber.batches subscriber.accepted end.tables
+      × HasBatchTables subscriber.base subscriber.batches subscriber.accepted end.tables
   pub in_order : (p : ℕ) (sender : Sender)
       → slice_get (world_told schema events answers).senders p ≡ Some sender
       → IsFront (own_of p (items_of new.sequence)) sender.sent

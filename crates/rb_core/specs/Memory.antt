@@ -33,6 +33,7 @@ MayRunOut w (event.Send p) (reply.Sent own) = Unit {0}
 MayRunOut w (event.Withdraw p n) reply.Staged = Unit {0}
 MayRunOut w event.Turn (reply.Placed number) = Unit {0}
 MayRunOut w (event.Subscribe start) (reply.Subscriber s link) = Unit {0}
+MayRunOut w (event.SubscribeBare start) (reply.Subscriber s link) = Unit {0}
 MayRunOut w (event.Take s now) (reply.Delivery delivery) = Unit {0}
 MayRunOut w (event.TakeAny now) (reply.Delivery delivery) = Unit {0}
 MayRunOut w (event.Accept d) (reply.Accepted s last) = Unit {0}

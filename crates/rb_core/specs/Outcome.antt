@@ -5,6 +5,7 @@
 use Rattle.std.specs.Prelude.{ℕ, suc, ◌+◌, ⊤, Bool, true, false, List, [], ◌∷◌, ◌++◌, length}
 use Rattle.std.specs.Prelude.{Option, Some, None, Result, Ok, Err, slice_get}
 use Rattle.std.specs.Prelude.{if◌then◌else◌, not}
+use Rattle.cs_apply.specs.State.{TableState}
 use Rattle.rb_desk.specs.Calls as desk
 use Rattle.rb_desk.specs.Journaled.{answer_after, closing_steps}
 use Rattle.rb_desk.specs.declared.delivery.Delivery.{Delivery}
@@ -20,7 +21,7 @@ use Rattle.rb_core.specs.declared.event.Event.TheVariants as event
 use Rattle.rb_core.specs.declared.reply.Reply.{Reply}
 use Rattle.rb_core.specs.declared.reply.Reply.TheVariants as reply
 use Rattle.rb_core.specs.declared.reply.BrokerRefusal.TheVariants as refusal
-use Rattle.rb_core.specs.State.{State, empty_tables}
+use Rattle.rb_core.specs.State.{State, bare_tables, empty_tables}
 pub use Rattle.rb_core.specs.Publishing.{refused, with_publisher, with_endpoint, entry_of}
 pub use Rattle.rb_core.specs.Publishing.{delivery_of, publisher_added, fed_reply, fed_stream}
 pub use Rattle.rb_core.specs.Publishing.{fed_by}
@@ -78,21 +79,22 @@ closed old = closed_by old (desk.close old.desk)
 
 -- ---- subscriptions
 
--- Subscribe: as the desk does, with an endpoint that has empty tables of the schema.
-abbrev pub subscribed_by : State → ℕ → Result (ℕ × ℕ) DeskRefusal → Picture → Reply × State
-subscribed_by old start (Ok made) picture = (
+-- Subscribe: as the desk does, with an endpoint that begins with these tables.
+abbrev pub subscribed_by : State → ℕ → TableState → Result (ℕ × ℕ) DeskRefusal → Picture
+    → Reply × State
+subscribed_by old start begun (Ok made) picture = (
   reply.Subscriber made.0 made.1,
   record old {
     desk = picture;
     steps = suc old.steps;
     endpoints = old.endpoints
-        ++ new_endpoint start made.1 (empty_tables old.schema) ∷ [];
+        ++ new_endpoint start made.1 begun ∷ [];
   },
 )
-subscribed_by old start (Err why) picture = refused old (refusal.Desk why)
+subscribed_by old start begun (Err why) picture = refused old (refusal.Desk why)
 
-abbrev pub subscribed : State → ℕ → Reply × State
-subscribed old start = subscribed_by old start
+abbrev pub subscribed : State → ℕ → TableState → Reply × State
+subscribed old start begun = subscribed_by old start begun
     (answer_after old.steps (desk.subscribe old.desk start).0) (desk.subscribe old.desk start).1
 
 -- Take: as the desk does, with the endpoint's link and cursor.
@@ -274,7 +276,8 @@ outcome old (event.Send p) = sent old p
 outcome old (event.Withdraw p n) = withdrawn old p n
 outcome old event.Turn = turned old
 outcome old event.Close = closed old
-outcome old (event.Subscribe start) = subscribed old start
+outcome old (event.Subscribe start) = subscribed old start (empty_tables old.schema)
+outcome old (event.SubscribeBare start) = subscribed old start (bare_tables old.schema)
 outcome old (event.Take s now) = delivered old s now
 outcome old (event.TakeAny now) = delivered_any old now
 outcome old (event.Accept d) = accepted old d

@@ -1,5 +1,5 @@
 -- The broker's state as a value, and its invariant.
-use Rattle.std.specs.Prelude.{◌≡◌, ℕ, suc, ◌+◌, ◌<◌, ◌≤◌, true, List, [], ◌∷◌, length, map}
+use Rattle.std.specs.Prelude.{◌≡◌, ℕ, suc, ◌+◌, ◌<◌, ◌≤◌, ◌⊎◌, true, List, [], ◌∷◌, length, map}
 use Rattle.std.specs.Prelude.{replicate, Option, Some, None, IfSome, Bool, false, zero, ◌-◌}
 use Rattle.std.specs.Prelude.{get_or}
 use Rattle.std.specs.FinMap as map
@@ -53,13 +53,23 @@ empty_world limits schema = record {
   withdrawn = [];
 }
 
--- tables without rows, all of them kept
-abbrev pub empty_tables : List Shape → tables.TableState
-empty_tables schema = record {
+-- tables without rows, all of them kept or none
+abbrev pub tables_begun : Bool → List Shape → tables.TableState
+tables_begun keeps schema = record {
   schema = schema;
-  kept = replicate (length schema) true;
+  kept = replicate (length schema) keeps;
   rows = map.empty;
 }
+
+abbrev pub empty_tables : List Shape → tables.TableState
+empty_tables schema = tables_begun true schema
+
+abbrev pub bare_tables : List Shape → tables.TableState
+bare_tables schema = tables_begun false schema
+
+-- the tables that a subscription begins with: all of the schema are kept, or none
+abbrev pub AreTablesBegun : List Shape → tables.TableState → Type 0
+AreTablesBegun schema begun = (begun ≡ empty_tables schema) ⊎ (begun ≡ bare_tables schema)
 
 -- ---- withdrawn entries
 

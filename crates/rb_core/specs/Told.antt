@@ -29,7 +29,7 @@ use Rattle.rb_core.specs.declared.reply.Reply.{Reply}
 use Rattle.rb_core.specs.declared.reply.Reply.TheVariants as reply
 use Rattle.rb_core.specs.Moves.{with_sender, with_subscriber, IsNew}
 use Rattle.rb_core.specs.Run.{Answer}
-use Rattle.rb_core.specs.State.{State, empty_tables, is_withdrawn}
+use Rattle.rb_core.specs.State.{State, AreTablesBegun, bare_tables, empty_tables, is_withdrawn}
 use Rattle.rb_core.specs.World.{Sender, Subscriber, World, world_begun, endpoint_of}
 use Rattle.rb_core.specs.World.{subscriber_begun}
 
@@ -133,11 +133,11 @@ placed old number = placed_from old number old.hand
 
 -- ---- subscriptions
 
--- adds a subscription after this number, under this link, with empty tables
-abbrev pub subscribed : List Shape → World → ℕ → ℕ → World
-subscribed schema old start link = record old {
+-- adds a subscription after this number, under this link, which begins with these tables
+abbrev pub subscribed : World → ℕ → ℕ → tables.TableState → World
+subscribed old start link begun = record old {
   links = link ∷ old.links;
-  subscribers = old.subscribers ++ subscriber_begun start link (empty_tables schema) ∷ [];
+  subscribers = old.subscribers ++ subscriber_begun start link begun ∷ [];
 }
 
 abbrev pub delivered : Delivery → Subscriber → Subscriber
@@ -202,7 +202,10 @@ told schema old (event.Withdraw p n) reply.Staged = withdrawn old p n
 told schema old event.Turn (reply.Placed number) = placed (pulled old) number
 told schema old event.Turn (reply.Refused why) = pulled old
 told schema old event.Close (reply.Closed last) = record old { closing = Some last }
-told schema old (event.Subscribe start) (reply.Subscriber s link) = subscribed schema old start link
+told schema old (event.Subscribe start) (reply.Subscriber s link) =
+    subscribed old start link (empty_tables schema)
+told schema old (event.SubscribeBare start) (reply.Subscriber s link) =
+    subscribed old start link (bare_tables schema)
 told schema old (event.Take s now) (reply.Delivery delivery) =
     subscriber_changed old delivery.sub (delivered delivery)
 told schema old (event.TakeAny now) (reply.Delivery delivery) =
@@ -260,7 +263,7 @@ AreBelow next q = AllByRecursion (λ offer. offer.number < next) q.deliveries
 
 -- A broker's desk, endpoints and deliveries agree with the reported closing number, links and
 -- subscriptions. Each delivery was made to its subscription. All links and numbers so far are below
--- the next ones. Each subscription began with empty tables.
+-- the next ones. Each subscription began with tables without rows, all of them kept or none.
 pub record AreSubscribersTold (schema : List Shape) (desk : Picture) (endpoints : List Endpoint)
     (handed : List Delivery) (closed : Option ℕ) (given : List ℕ) (subscribers : List Subscriber)
     : Type 0 where
@@ -269,7 +272,7 @@ pub record AreSubscribersTold (schema : List Shape) (desk : Picture) (endpoints 
   pub deliveries : AllByRecursion (IsDelivered subscribers) handed
   pub links : AllByRecursion (λ link. link < desk.next_link) given
   pub numbers : AllByRecursion (AreBelow desk.next_delivery) subscribers
-  pub bases : AllByRecursion (λ q. q.base ≡ empty_tables schema) subscribers
+  pub bases : AllByRecursion (λ q. AreTablesBegun schema q.base) subscribers
 
 -- A broker's state agrees with the reported world: publishers, intake, item in hand, sequence,
 -- closing number and subscriptions. The same entries are withdrawn.

@@ -23,8 +23,11 @@ pub enum Event {
     Turn,
     /// Closes the sequence: nothing more is sent or placed.
     Close,
-    /// Adds a subscription that begins after number `start`.
+    /// Adds a subscription that begins after number `start`, with empty tables.
     Subscribe { start: u64 },
+    /// The same of a subscription that keeps no rows: no change of its tables is applied, so
+    /// nothing that it accepts conflicts.
+    SubscribeBare { start: u64 },
     /// Delivers a subscription's next entries, at tick `now`.
     Take { subscription: u64, now: u64 },
     /// Delivers the entries that have been ready the longest, of any subscription with room, at

@@ -23,7 +23,7 @@ ghost use Rattle.rb_sequence.specs.Items.{own_of};
 ghost use Rattle.rb_core.specs.Moves.{AreAllOf, IsSending};
 ghost use Rattle.rb_core.specs.Outcome.{outcome, delivery_of};
 ghost use Rattle.rb_core.specs.Run.{Answer, IsRunOf, RunsOn};
-ghost use Rattle.rb_core.specs.State.{State, IsWorld, empty_tables, empty_world};
+ghost use Rattle.rb_core.specs.State.{State, IsWorld, AreTablesBegun, bare_tables, empty_world};
 ghost use Rattle.rb_core.specs.Texts.{FeedsByText, EndsByText};
 ghost use Rattle.rb_core.specs.Told.{Paired, world_told, IsToldBy};
 ghost use Rattle.rb_core.specs.World.{Sender, Subscriber, World, world_begun, endpoint_of};
@@ -217,15 +217,17 @@ pub fn bodies_are_changesets()
 }
 
 /// At any time of any run, each subscription has an endpoint in the broker. Where the changesets
-/// that the subscription accepted apply singly, without conflict, to empty tables, the endpoint's
-/// tables are what one thread gets that applies them so.
+/// that the subscription accepted apply singly, without conflict, to the tables that it began with,
+/// the endpoint's tables are what one thread gets that applies them so. It began with tables of the
+/// schema without rows, all of them kept or none.
 pub fn tables_apply_singly()
     ensures { (limits : Limits) (schema : List Shape) (events : List Event)
         (answers : List Answer) (new : State) (s : ℕ) (subscriber : Subscriber)
         → IsRunOf limits schema events answers new
         → slice_get (world_told schema events answers).subscribers s ≡ Some subscriber
         → (end : Endpoint) × (slice_get new.endpoints s ≡ Some end)
-        × HasSingleTables (empty_tables schema) subscriber.accepted end.tables }
+        × HasSingleTables subscriber.base subscriber.accepted end.tables
+        × AreTablesBegun schema subscriber.base }
 {
     runs_are_told();
     accepted_is_gapless();
@@ -235,19 +237,42 @@ pub fn tables_apply_singly()
 
 /// At any time of any run, each subscription has an endpoint in the broker. The batches that the
 /// subscription accepted, each the entries of one delivery, are its accepted entries, in order. The
-/// endpoint's tables are what the groups of the batches leave, applied to empty tables one batch
-/// after another. This holds whether or not the changesets apply singly without conflict.
+/// endpoint's tables are what the groups of the batches leave, applied one batch after another to
+/// the tables that the subscription began with. This holds whether or not the changesets apply
+/// singly without conflict.
 pub fn tables_are_of_batches()
     ensures { (limits : Limits) (schema : List Shape) (events : List Event)
         (answers : List Answer) (new : State) (s : ℕ) (subscriber : Subscriber)
         → IsRunOf limits schema events answers new
         → slice_get (world_told schema events answers).subscribers s ≡ Some subscriber
         → (end : Endpoint) × (slice_get new.endpoints s ≡ Some end)
-        × HasBatchTables (empty_tables schema) subscriber.batches subscriber.accepted end.tables }
+        × HasBatchTables subscriber.base subscriber.batches subscriber.accepted end.tables }
 {
     runs_are_told();
     accepted_is_gapless();
     courses::tables_are_of_batches();
+}
+
+/// At any time of any run, a subscription that keeps no rows has none: its tables are those that it
+/// began with. No delivery to it is refused for a conflict.
+pub fn bare_subscriptions_keep_no_rows()
+    ensures rows { (limits : Limits) (schema : List Shape) (events : List Event)
+        (answers : List Answer) (new : State) (s : ℕ) (subscriber : Subscriber)
+        → IsRunOf limits schema events answers new
+        → slice_get (world_told schema events answers).subscribers s ≡ Some subscriber
+        → subscriber.base ≡ bare_tables schema → subscriber.tables ≡ bare_tables schema }
+    ensures conflicts { (limits : Limits) (schema : List Shape) (events : List Event)
+        (answers : List Answer) (old : State) (d : ℕ) (delivery : Delivery)
+        (subscriber : Subscriber) (conflict : Conflict) (new : State)
+        → IsRunOf limits schema events answers old → delivery_of old d ≡ Some delivery
+        → slice_get (world_told schema events answers).subscribers delivery.sub ≡ Some subscriber
+        → subscriber.base ≡ bare_tables schema
+        → outcome old (event.Accept d)
+        ≡ (reply.Refused (refusal.Accept (why.Conflict conflict)), new) → ⊥ }
+{
+    runs_are_told();
+    tables_are_of_batches();
+    conflicts_are_single();
 }
 
 /// Every run keeps the headline: the laws above together. `run` says the same of its own events.
@@ -311,6 +336,11 @@ pub fn new_numbers_count_the_old()
         (answers : List Answer) (mid new : State) (start s link : ℕ)
         → IsRunOf limits schema events answers mid
         → outcome mid (event.Subscribe start) ≡ (reply.Subscriber s link, new)
+        → s ≡ length (world_told schema events answers).subscribers }
+    ensures bare { (limits : Limits) (schema : List Shape) (events : List Event)
+        (answers : List Answer) (mid new : State) (start s link : ℕ)
+        → IsRunOf limits schema events answers mid
+        → outcome mid (event.SubscribeBare start) ≡ (reply.Subscriber s link, new)
         → s ≡ length (world_told schema events answers).subscribers }
 {
     runs_are_told();

@@ -8,7 +8,7 @@ ghost use Rattle.rb_core.specs.Moves.{HasRun, StaysClosed, items_of};
 ghost use Rattle.rb_sequence.specs.Items.{own_of};
 ghost use Rattle.rb_core.specs.Moves.{AreAllOf, IsFront, IsSending};
 ghost use Rattle.rb_core.specs.Run.{FeedsBytes, Run, RunsOutWhereItMay};
-ghost use Rattle.rb_core.specs.State.{empty_tables, empty_world};
+ghost use Rattle.rb_core.specs.State.{AreTablesBegun, empty_world};
 ghost use Rattle.rb_core.specs.Told.{Paired, world_told};
 ghost use Rattle.rb_core.specs.World.{Sender, Subscriber, endpoint_of};
 ghost use Rattle.rb_sequence.specs.Entry.{Entry};
@@ -82,18 +82,22 @@ pub fn run(
         → subscriber.closed ≡ true
         → (after : Subscriber) × (slice_get (world_told schema events.now r.1.items).subscribers s
         ≡ Some after) × StaysClosed subscriber after) }
-    // Where what a subscription accepted applies singly, without conflict, to empty tables, the
-    // tables of its endpoint are what one thread gets that applies it so.
+    // Where what a subscription accepted applies singly, without conflict, to the tables that it
+    // began with, the tables of its endpoint are what one thread gets that applies it so.
     ensures tables { IfOk result (λ r. (s : ℕ) (subscriber : Subscriber)
         → slice_get (world_told schema events.now r.1.items).subscribers s ≡ Some subscriber
         → (end : Endpoint) × (slice_get r.0.endpoints s ≡ Some end)
-        × HasSingleTables (empty_tables schema) subscriber.accepted end.tables) }
+        × HasSingleTables subscriber.base subscriber.accepted end.tables) }
+    // It began with tables of the schema without rows, all of them kept or none.
+    ensures begun { IfOk result (λ r. (s : ℕ) (subscriber : Subscriber)
+        → slice_get (world_told schema events.now r.1.items).subscribers s ≡ Some subscriber
+        → AreTablesBegun schema subscriber.base) }
     // Whether or not it applies singly: the batches that a subscription accepted are its accepted
     // entries, in order, and the tables of its endpoint are what the groups of the batches leave.
     ensures batches { IfOk result (λ r. (s : ℕ) (subscriber : Subscriber)
         → slice_get (world_told schema events.now r.1.items).subscribers s ≡ Some subscriber
         → (end : Endpoint) × (slice_get r.0.endpoints s ≡ Some end)
-        × HasBatchTables (empty_tables schema) subscriber.batches subscriber.accepted end.tables) }
+        × HasBatchTables subscriber.base subscriber.batches subscriber.accepted end.tables) }
 {
     runs_keep_the_headline();
     served(alloc, config, schema, events)

@@ -5,7 +5,7 @@ ghost use Rattle.std.specs.Arc.{arc_value};
 ghost use Rattle.rb_core.specs.Memory.{MayRunOut};
 ghost use Rattle.rb_core.specs.Outcome as outcome;
 ghost use Rattle.rb_core.specs.declared.event.Event.TheVariants as event;
-ghost use Rattle.rb_core.specs.State.{empty_tables};
+ghost use Rattle.rb_core.specs.State.{tables_begun};
 
 use crate::parts::Parts;
 use crate::reply::{BrokerRefusal, Reply};
@@ -18,17 +18,26 @@ use std::alloc::{AllocError, Global};
 use std::sync::Arc;
 
 impl Parts {
-    /// Adds a subscription to the entries after number `start`, with empty tables.
-    pub(crate) fn subscribe(&mut self, alloc: Global, start: u64) -> Result<Reply, AllocError>
-        ensures ok { IfOk result (λ reply. outcome.subscribed self.old start ≡ (reply, self.new)) }
+    /// Adds a subscription to the entries after number `start`, with tables without rows, which it
+    /// keeps or not.
+    pub(crate) fn subscribe(
+        &mut self,
+        alloc: Global,
+        start: u64,
+        keeps: bool,
+    ) -> Result<Reply, AllocError>
+        ensures ok { IfOk result (λ reply. outcome.subscribed self.old start
+            (tables_begun keeps self.old.schema) ≡ (reply, self.new)) }
         ensures err { OnErr result (self.new ≡ self.old) }
         ensures memory { OnErr result (MayRunOut self.old (event.Subscribe start)
-            (outcome.subscribed self.old start).0) }
+            (outcome.subscribed self.old start (tables_begun keeps self.old.schema)).0) }
+        ensures bare { OnErr result (MayRunOut self.old (event.SubscribeBare start)
+            (outcome.subscribed self.old start (tables_begun keeps self.old.schema)).0) }
     {
         if let Some(why) = self.desk.refuses_subscribe(start) {
             return refused(BrokerRefusal::Desk(why));
         }
-        let tables = tables_of(alloc, &self.schema)?;
+        let tables = tables_of(alloc, &self.schema, keeps)?;
         self.endpoints.reserve(1)?;
         match self.desk.subscribe(alloc, start) {
             Ok((subscription, link)) => {
@@ -151,10 +160,10 @@ impl Parts {
     }
 }
 
-// tables without rows, all of them kept
-fn tables_of(alloc: Global, schema: &Arc<Schema>) -> Result<Tables, AllocError>
-    ensures { IfOk result (λ tables. tables ≡ empty_tables (arc_value schema.now)) }
+// tables without rows, all of them kept or none
+fn tables_of(alloc: Global, schema: &Arc<Schema>, keeps: bool) -> Result<Tables, AllocError>
+    ensures { IfOk result (λ tables. tables ≡ tables_begun keeps (arc_value schema.now)) }
 {
-    let kept = vec![in alloc; true; schema.tables().len()]?;
+    let kept = vec![in alloc; keeps; schema.tables().len()]?;
     Ok(Tables::new(alloc, Arc::try_clone(schema)?, kept))
 }

@@ -5,3 +5,4 @@ pub mod FedLaws
 pub mod WholeLaws
 pub mod ScriptLaws
 pub mod RunLaws
+pub mod BeginLaws

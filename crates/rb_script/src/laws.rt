@@ -5,7 +5,8 @@ ghost use Rattle.std.specs.Prelude.{◌≡◌, ◌++◌, ◌∷◌, [], ℕ, Lis
 ghost use Rattle.std.specs.List.{AllByRecursion};
 ghost use Rattle.rb_desk.specs.{IsPicture.{AreInRange}, Limits.{Limits}};
 ghost use Rattle.rb_core.specs.{Headline.{KeepsHeadline}, Moves.{HasRun}, Run.{FeedsBytes, Run}};
-ghost use Rattle.rb_core.specs.{State.{empty_world}, Told.{world_told}, World.{Subscriber}};
+ghost use Rattle.rb_core.specs.{State.{empty_tables, empty_world}, Told.{world_told}};
+ghost use Rattle.rb_core.specs.World.{Subscriber};
 ghost use Rattle.rb_script.specs.declared.lines.Stage.{Stage};
 ghost use Rattle.rb_script.specs.declared.lines.Stage.TheVariants.{Tables};
 ghost use Rattle.rb_script.specs.declared.answering.Answering.{Answering};
@@ -55,6 +56,15 @@ pub fn accepted_lines_are_gapless()
     scripts_feed_bytes();
     accepted_is_gapless();
 }
+
+/// Every subscription of a script begins with empty tables, since no line makes one that keeps no
+/// rows. So the tables in the headline of a script are those of empty tables.
+pub fn script_subscriptions_begin_empty()
+    ensures { (config : Limits) (lines : List (List ℕ)) (s : ℕ) (subscriber : Subscriber)
+        → slice_get (world_told (schema_of_script lines) (lines_events lines)
+        (lines_replies config (Tables []) lines)).subscribers s ≡ Some subscriber
+        → subscriber.base ≡ empty_tables (schema_of_script lines) }
+{}
 
 /// The headline of a script, whatever its lines are and whether or not the last one has its end.
 /// What is written is the answers to its lines, and these keep the headline: under the schema that

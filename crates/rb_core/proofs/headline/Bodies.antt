@@ -175,6 +175,7 @@ told_sound spells schema old event.Turn (reply.Refused why) feeds h =
     pulled_sound old old.hand old.intake h.intake h
 told_sound spells schema old event.Close (reply.Closed last) feeds h = h
 told_sound spells schema old (event.Subscribe start) (reply.Subscriber s link) feeds h = h
+told_sound spells schema old (event.SubscribeBare start) (reply.Subscriber s link) feeds h = h
 told_sound spells schema old (event.Take s now) (reply.Delivery delivery) feeds h =
     subscriber_sound old delivery.sub (say.delivered delivery) (slice_get old.subscribers delivery.sub) h
 told_sound spells schema old (event.TakeAny now) (reply.Delivery delivery) feeds h =

@@ -5,6 +5,7 @@ use Rattle.std.specs.Prelude.{IfSome, not, ◌==◌, ◌-◌}
 use Rattle.std.specs.List.{AllByRecursion}
 use Rattle.std.proofs.lemmas.Bool.{leb-false}
 use Rattle.std.proofs.lemmas.List.{length-append, length-set, map_push}
+use Rattle.cs_apply.specs.State.{TableState}
 use Rattle.cs_invert.specs.Inverse.{withdrawal_of}
 use Rattle.cs_model.proofs.CallerLemmas.{all_push}
 use Rattle.cs_model.specs.declared.schema.SectionFault.{SectionFault}
@@ -35,7 +36,8 @@ use Rattle.rb_core.specs.Outcome.{fed_by, reset_by, staged_by, ended_by, ended_f
 use Rattle.rb_core.specs.Outcome.{turned_with, subscribed_by, delivered_for, delivery_of, outcome, entry_of}
 use Rattle.rb_core.specs.Outcome.{withdrawn_from, withdrawn_by, withdrawn_for}
 use Rattle.rb_core.specs.Outcome as outcome
-use Rattle.rb_core.specs.State.{State, empty_tables, member_of_end, AdmitsBody, AdmitsStaged, IsWorld, is_withdrawn}
+use Rattle.rb_core.specs.State.{State, bare_tables, empty_tables, member_of_end, is_withdrawn}
+use Rattle.rb_core.specs.State.{AdmitsBody, AdmitsStaged, IsWorld}
 use Rattle.rb_core.proofs.invariants.DeskLaws.{KeepsLimits, KeepsPictures, DeskShows, place_keeps}
 use Rattle.rb_core.proofs.invariants.WorldDeliveries.{AcceptsBySteps, world_events_unless, accepted_as_keeps, crashed_for_keeps}
 use Rattle.rb_core.proofs.invariants.WorldDeliveries.{acked_keeps, nacked_keeps, opened_keeps, world_events_expired_keeps}
@@ -252,13 +254,13 @@ end_sequence_keeps keeps shows old good =
 
 -- ---- subscriptions
 
-world_events_subscribed_keeps : (old : State) (start : ℕ) (r : Result (ℕ × ℕ) DeskRefusal) (new : Picture) → IsWorld old
-    → KeepsLimits old.desk new
+world_events_subscribed_keeps : (old : State) (start : ℕ) (begun : TableState) (r : Result (ℕ × ℕ) DeskRefusal)
+    (new : Picture) → IsWorld old → KeepsLimits old.desk new
     → ((made : ℕ × ℕ) → r ≡ Ok made → outline.Subscribes (outline_of old.desk) (outline_of new) start made.0 made.1)
-    → IsWorld (subscribed_by old start r new).1
-world_events_subscribed_keeps old start (Ok made) new good picture joins =
+    → IsWorld (subscribed_by old start begun r new).1
+world_events_subscribed_keeps old start begun (Ok made) new good picture joins =
     let join = joins made refl in
-    let end : Endpoint = new_endpoint start made.1 (empty_tables old.schema) in
+    let end : Endpoint = new_endpoint start made.1 begun in
     let members = map_push member_of_end old.endpoints end
     ∙ ap (λ (ms : List Member). ms ++ member_of_end end ∷ []) good.members
     ∙ sym (ap (λ (o : Outline). o.members) join.kept) in
@@ -266,15 +268,15 @@ world_events_subscribed_keeps old start (Ok made) new good picture joins =
     (worlds_changed old new (old.endpoints ++ end ∷ []) good picture (ap (λ (o : Outline). o.front) join.kept)
     (ap (λ (o : Outline). o.next_delivery) join.kept) members
     (omega (arith, length-append old.endpoints (end ∷ []))))
-world_events_subscribed_keeps old start (Err why) new good picture joins = good
+world_events_subscribed_keeps old start begun (Err why) new good picture joins = good
 
-subscription_keeps : KeepsPictures → DeskShows → (old : State) (start : ℕ) → IsWorld old
-    → IsWorld (subscribed_by old start (answer_after old.steps (desk.subscribe old.desk start).0)
+subscription_keeps : KeepsPictures → DeskShows → (old : State) (start : ℕ) (begun : TableState) → IsWorld old
+    → IsWorld (subscribed_by old start begun (answer_after old.steps (desk.subscribe old.desk start).0)
     (desk.subscribe old.desk start).1).1
 unfolding after_step
-subscription_keeps keeps shows old start good =
+subscription_keeps keeps shows old start begun good =
     let call = desk.subscribe old.desk start in
-    world_events_subscribed_keeps old start (answer_after old.steps call.0) call.1 good
+    world_events_subscribed_keeps old start begun (answer_after old.steps call.0) call.1 good
     (keeps old.desk (step.Subscribe start) good.picture)
     (λ made is. shows.subscribes old.desk start made.0 made.1 call.1 (call_after old.steps call made is))
 
@@ -320,7 +322,10 @@ event_keeps keeps shows steps law old (event.Withdraw p n) good =
     withdraw_keeps law old p n (slice_get old.publishers p) good
 event_keeps keeps shows steps law old event.Turn good = turn_keeps keeps shows old good
 event_keeps keeps shows steps law old event.Close good = end_sequence_keeps keeps shows old good
-event_keeps keeps shows steps law old (event.Subscribe start) good = subscription_keeps keeps shows old start good
+event_keeps keeps shows steps law old (event.Subscribe start) good =
+    subscription_keeps keeps shows old start (empty_tables old.schema) good
+event_keeps keeps shows steps law old (event.SubscribeBare start) good =
+    subscription_keeps keeps shows old start (bare_tables old.schema) good
 event_keeps keeps shows steps law old (event.Take s now) good =
     taken_keeps keeps shows old s now (slice_get old.endpoints s) good
 event_keeps keeps shows steps law old (event.TakeAny now) good = taken_any_keeps keeps shows old now good

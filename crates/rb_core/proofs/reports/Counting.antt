@@ -4,6 +4,7 @@ use Rattle.std.proofs.Common.{Err}
 use Rattle.std.proofs.Common.{refl, sym, ap, ◌∙◌, arith}
 use Rattle.std.specs.Prelude.{nat_le}
 use Rattle.std.proofs.lemmas.List.{length-map}
+use Rattle.cs_apply.specs.State.{TableState}
 use Rattle.cs_model.specs.declared.shape.Shape.{Shape}
 use Rattle.rb_desk.specs.Calls as desk
 use Rattle.rb_desk.specs.declared.refusal.DeskRefusal.{DeskRefusal}
@@ -16,7 +17,7 @@ use Rattle.rb_core.specs.declared.reply.Reply.TheVariants as reply
 use Rattle.rb_core.specs.declared.reply.BrokerRefusal.TheVariants as refusal
 use Rattle.rb_core.specs.Outcome as out
 use Rattle.rb_core.specs.Outcome.{outcome}
-use Rattle.rb_core.specs.State.{State, IsWorld, member_of_end}
+use Rattle.rb_core.specs.State.{State, IsWorld, bare_tables, empty_tables, member_of_end}
 use Rattle.rb_core.specs.Told.{Paired, IsToldBy}
 use Rattle.rb_core.specs.World.{World, endpoint_of}
 use Rattle.rb_core.proofs.reports.TellSubscriptions.{SubscribeShows}
@@ -54,17 +55,18 @@ pub publisher_counts : (schema : List Shape) (old : State) (world : World) (p : 
 publisher_counts schema old world p new h e =
     publisher_number old p new e ∙ paired_length _ old.publishers world.senders h.senders
 
-pub subscriber_counts : SubscribeShows → (schema : List Shape) (old : State) (world : World) (start s link : ℕ)
-    (new : State) → IsWorld old → IsToldBy schema old world
-    → outcome old (event.Subscribe start) ≡ (reply.Subscriber s link, new) → s ≡ length world.subscribers
-unfolding outcome
-subscriber_counts shows schema old world start s link new good h e =
+-- whatever tables it begins with
+begun_counts : SubscribeShows → (schema : List Shape) (old : State) (world : World) (start s link : ℕ)
+    (begun : TableState) (new : State) → IsWorld old → IsToldBy schema old world
+    → out.subscribed old start begun ≡ (reply.Subscriber s link, new) → s ≡ length world.subscribers
+begun_counts shows schema old world start s link begun new good h e =
     by (answer_after old.steps (desk.subscribe old.desk start).0) (desk.subscribe old.desk start).1
     (call_after old.steps (desk.subscribe old.desk start)) e
   where
     by : (answer : Result (ℕ × ℕ) DeskRefusal) (picture : Picture)
         → ((made : ℕ × ℕ) → answer ≡ Ok made → desk.subscribe old.desk start ≡ (Ok made, picture))
-        → out.subscribed_by old start answer picture ≡ (reply.Subscriber s link, new) → s ≡ length world.subscribers
+        → out.subscribed_by old start begun answer picture ≡ (reply.Subscriber s link, new)
+        → s ≡ length world.subscribers
     by (Err why) picture is e =
         absurd (let both : reply.Refused (refusal.Desk why) ≡ reply.Subscriber s link = ap reply_of e in cc)
     by (Ok made) picture is e =
@@ -75,3 +77,17 @@ subscriber_counts shows schema old world start s link new good h e =
         sym same ∙ last ∙ ap (λ (ms : List Member). length ms) (sym good.members)
         ∙ length-map old.endpoints member_of_end
         ∙ ap (λ (es : List Endpoint). length es) (sym h.subscriptions.ends) ∙ length-map world.subscribers endpoint_of
+
+pub subscriber_counts : SubscribeShows → (schema : List Shape) (old : State) (world : World) (start s link : ℕ)
+    (new : State) → IsWorld old → IsToldBy schema old world
+    → outcome old (event.Subscribe start) ≡ (reply.Subscriber s link, new) → s ≡ length world.subscribers
+unfolding outcome
+subscriber_counts shows schema old world start s link new good h e =
+    begun_counts shows schema old world start s link (empty_tables old.schema) new good h e
+
+pub bare_subscriber_counts : SubscribeShows → (schema : List Shape) (old : State) (world : World) (start s link : ℕ)
+    (new : State) → IsWorld old → IsToldBy schema old world
+    → outcome old (event.SubscribeBare start) ≡ (reply.Subscriber s link, new) → s ≡ length world.subscribers
+unfolding outcome
+bare_subscriber_counts shows schema old world start s link new good h e =
+    begun_counts shows schema old world start s link (bare_tables old.schema) new good h e

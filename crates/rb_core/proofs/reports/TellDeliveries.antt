@@ -40,7 +40,8 @@ use Rattle.rb_core.specs.World.{Subscriber, World, cursor, endpoint_of}
 use Rattle.rb_core.proofs.headline.Moving.{all_set, all_get, all_map}
 use Rattle.rb_core.proofs.headline.Gapless.{part_length}
 use Rattle.rb_core.proofs.whole_runs.Pairs.{map_set, set_same, all_find, found_in, find_passes, found_first, found_last}
-use Rattle.rb_core.proofs.reports.Telling.{TellingGoes, nothing_told, move_told, all_unused, later_numbers, BeginsEmpty}
+use Rattle.rb_core.proofs.reports.Telling.{TellingGoes, nothing_told, move_told, all_unused, later_numbers}
+use Rattle.rb_core.proofs.reports.Telling.{BeginsWithoutRows}
 use Rattle.rb_core.proofs.reports.Telling.{changed_is, subscriber_of_end, subscriber_of_member, still_offered}
 use Rattle.rb_core.proofs.reports.Telling.{telling_with_both, with_desk, with_subscriptions}
 use Rattle.rb_desk.proofs.journals.KeepLaws.{call_after}
@@ -142,8 +143,8 @@ offered_tells schema old world delivery picture event is shown good h =
     h.subscriptions.links)
     (subst (λ n. AllByRecursion (AreBelow n) new.subscribers) (sym (ap (λ (o : Outline). o.next_delivery) kept))
     (all_set (AreBelow (suc delivery.number)) world.subscribers delivery.sub r later of_one))
-    (all_set (BeginsEmpty schema) world.subscribers delivery.sub r h.subscriptions.bases
-    (all_get (BeginsEmpty schema) world.subscribers delivery.sub q h.subscriptions.bases at.1)) h)
+    (all_set (BeginsWithoutRows schema) world.subscribers delivery.sub r h.subscriptions.bases
+    (all_get (BeginsWithoutRows schema) world.subscribers delivery.sub q h.subscriptions.bases at.1)) h)
 
 took_tells : TakeShows → (schema : List Shape) (old : State) (world : World) (s now : ℕ) (end : Endpoint)
     (answer : Result Delivery DeskRefusal) (picture : Picture)

@@ -1,6 +1,6 @@
 -- What is reported of subscriptions that begin, continue under another link, and are closed.
-use Rattle.std.proofs.Common.{◌≡◌, ℕ, suc, ◌+◌, ◌<◌, ◌≤◌, inl, inr, true, List, [], ◌∷◌, ◌++◌, length, map, Option}
-use Rattle.std.proofs.Common.{Some, None, Result, Ok, Err, refl, sym, ap, subst, ◌∙◌, arith}
+use Rattle.std.proofs.Common.{◌≡◌, ℕ, suc, ◌+◌, ◌<◌, ◌≤◌, inl, inr, Bool, true, false, List, [], ◌∷◌, ◌++◌, length, map}
+use Rattle.std.proofs.Common.{Option, Some, None, Result, Ok, Err, refl, sym, ap, subst, ◌∙◌, arith}
 use Rattle.std.specs.Prelude.{⊤, slice_get}
 use Rattle.std.specs.List.{AllByRecursion}
 use Rattle.std.proofs.lemmas.List.{map-append}
@@ -15,18 +15,20 @@ use Rattle.rb_desk.specs.Outline as outline
 use Rattle.rb_desk.specs.Picture.{Picture}
 use Rattle.rb_sequence.specs.Entry.{Entry}
 use Rattle.rb_subscriber.specs.Endpoint.{Endpoint, new_endpoint}
+use Rattle.rb_core.specs.declared.event.Event.{Event}
 use Rattle.rb_core.specs.declared.event.Event.TheVariants as event
 use Rattle.rb_core.specs.declared.reply.Reply.TheVariants as reply
+use Rattle.rb_core.specs.declared.reply.BrokerRefusal.{BrokerRefusal}
 use Rattle.rb_core.specs.declared.reply.BrokerRefusal.TheVariants as refusal
 use Rattle.rb_core.specs.Moves.{with_subscriber, IsNew, Subscribes, Reconnects, Unsubscribes}
 use Rattle.rb_core.specs.Outcome as out
 use Rattle.rb_core.specs.Outcome.{with_endpoint}
-use Rattle.rb_core.specs.State.{State, IsWorld, empty_tables}
+use Rattle.rb_core.specs.State.{State, AreTablesBegun, IsWorld, tables_begun}
 use Rattle.rb_core.specs.Told as say
 use Rattle.rb_core.specs.Told.{told, IsDelivered, AreBelow, IsToldBy}
 use Rattle.rb_core.specs.World.{Subscriber, World, endpoint_of, subscriber_begun}
 use Rattle.rb_core.proofs.headline.Moving.{all_map, get_push}
-use Rattle.rb_core.proofs.reports.Telling.{TellingGoes, nothing_told, move_told, all_new, BeginsEmpty, changed_is}
+use Rattle.rb_core.proofs.reports.Telling.{TellingGoes, nothing_told, move_told, all_new, BeginsWithoutRows, changed_is}
 use Rattle.rb_core.proofs.reports.Telling.{with_subscriptions}
 use Rattle.rb_desk.proofs.journals.KeepLaws.{call_after}
 use Rattle.rb_desk.specs.Journaled.{answer_after}
@@ -48,12 +50,18 @@ UnsubscribeShows = (old : Picture) (s link : ℕ) (new : Picture) → desk.unsub
 -- ---- one begins
 
 -- its end
-one_end : (schema served : List Shape) (start link : ℕ) → served ≡ schema
-    → endpoint_of (subscriber_begun start link (empty_tables schema)) ≡ new_endpoint start link (empty_tables served)
-one_end schema served start link same =
+one_end : (keeps : Bool) (schema served : List Shape) (start link : ℕ) → served ≡ schema
+    → endpoint_of (subscriber_begun start link (tables_begun keeps schema))
+    ≡ new_endpoint start link (tables_begun keeps served)
+one_end keeps schema served start link same =
     let nothing : start + 0 ≡ start = omega arith in
-    ap (λ n. record (new_endpoint start link (empty_tables schema)) { cursor = n }) nothing
-    ∙ ap (λ shapes. new_endpoint start link (empty_tables shapes)) (sym same)
+    ap (λ n. record (new_endpoint start link (tables_begun keeps schema)) { cursor = n }) nothing
+    ∙ ap (λ shapes. new_endpoint start link (tables_begun keeps shapes)) (sym same)
+
+-- its tables
+tables_are_begun : (keeps : Bool) (schema : List Shape) → AreTablesBegun schema (tables_begun keeps schema)
+tables_are_begun true schema = inl refl
+tables_are_begun false schema = inr refl
 
 push_ends : (subs : List Subscriber) (q : Subscriber) (ends : List Endpoint) (end : Endpoint) → map endpoint_of subs
     ≡ ends → endpoint_of q ≡ end → map endpoint_of (subs ++ q ∷ []) ≡ ends ++ end ∷ []
@@ -66,21 +74,32 @@ pushed_offers subs q deliveries all =
     all_map (IsDelivered subs) (IsDelivered (subs ++ q ∷ [])) deliveries
     (λ d h. (h.0, get_push subs q h.0 d.sub h.1, h.2)) all
 
-subscribed_tells : SubscribeShows → (schema : List Shape) (old : State) (world : World) (start : ℕ)
-    (answer : Result (ℕ × ℕ) DeskRefusal) (picture : Picture)
-    → ((made : ℕ × ℕ) → answer ≡ Ok made → desk.subscribe old.desk start ≡ (Ok made, picture)) → IsWorld old → IsToldBy schema old world
-    → TellingGoes schema world (event.Subscribe start) (out.subscribed_by old start answer picture)
-subscribed_tells shows schema old world start (Err why) picture is good h =
-    nothing_told schema world (event.Subscribe start) (reply.Refused (refusal.Desk why)) old refl h
-subscribed_tells shows schema old world start (Ok made) picture is good h =
+-- the event tells of one that begins so, or nothing where it is refused
+record TellsBegun (keeps : Bool) (schema : List Shape) (world : World) (event : Event) (start : ℕ) : Type 0 where
+  begins : (s link : ℕ) → told schema world event (reply.Subscriber s link)
+      ≡ say.subscribed world start link (tables_begun keeps schema)
+  refused : (why : BrokerRefusal) → told schema world event (reply.Refused why) ≡ world
+
+subscribed_tells : SubscribeShows → (keeps : Bool) (schema : List Shape) (old : State) (world : World) (event : Event)
+    (start : ℕ) (answer : Result (ℕ × ℕ) DeskRefusal) (picture : Picture)
+    → TellsBegun keeps schema world event start
+    → ((made : ℕ × ℕ) → answer ≡ Ok made → desk.subscribe old.desk start ≡ (Ok made, picture)) → IsWorld old
+    → IsToldBy schema old world
+    → TellingGoes schema world event (out.subscribed_by old start (tables_begun keeps old.schema) answer picture)
+subscribed_tells shows keeps schema old world event start (Err why) picture tells is good h =
+    nothing_told schema world event (reply.Refused (refusal.Desk why)) old (tells.refused (refusal.Desk why)) h
+subscribed_tells shows keeps schema old world event start (Ok made) picture tells is good h =
     let link = made.1 in
     let shown = shows old.desk start made.0 link picture (is made refl) in
     let kept = shown.kept in
-    let q = subscriber_begun start link (empty_tables schema) in
-    let end = new_endpoint start link (empty_tables old.schema) in
-    let new = say.subscribed schema world start link in
-    let linked = (with_link schema old world picture (suc old.steps) link (ap (λ (o : Outline). o.closing) kept)
-    shown.given (ap (λ (o : Outline). o.next_link) kept) (ap (λ (o : Outline). o.next_delivery) kept) h).subscriptions in
+    let base = tables_begun keeps schema in
+    let q = subscriber_begun start link base in
+    let end = new_endpoint start link (tables_begun keeps old.schema) in
+    let new = say.subscribed world start link base in
+    let after = (out.subscribed_by old start (tables_begun keeps old.schema) (Ok made) picture).1 in
+    let linked =
+    (with_link schema old world picture (suc old.steps) link (ap (λ (o : Outline). o.closing) kept) shown.given
+    (ap (λ (o : Outline). o.next_link) kept) (ap (λ (o : Outline). o.next_delivery) kept) h).subscriptions in
     let far : old.desk.front ≡ length world.sequence =
     good.front ∙ ap (λ (entries : List Entry). length entries) (sym h.sequence) in
     let fresh : IsNew world.links link =
@@ -90,26 +109,35 @@ subscribed_tells shows schema old world start (Ok made) picture is good h =
     record {
       start = start;
       link = link;
-      base = empty_tables schema;
+      base = base;
       placed = subst (λ n. start ≤ n) far shown.placed;
       new_link = fresh;
       kept = refl;
     } in
-    move_told schema world new (event.Subscribe start) (reply.Subscriber made.0 link)
-    (out.subscribed_by old start (Ok made) picture).1 refl (inr (inr (inr (inr (inr (inr (inr (inl begins))))))))
-    (with_subscriptions schema old (out.subscribed_by old start (Ok made) picture).1 world new linked.closing
+    move_told schema world new event (reply.Subscriber made.0 link) after (tells.begins made.0 link)
+    (inr (inr (inr (inr (inr (inr (inr (inl begins))))))))
+    (with_subscriptions schema old after world new linked.closing
     (push_ends world.subscribers q old.endpoints end h.subscriptions.ends
-    (one_end schema old.schema start link h.served))
+    (one_end keeps schema old.schema start link h.served))
     (pushed_offers world.subscribers q old.deliveries h.subscriptions.deliveries) linked.links
     (all_push (AreBelow picture.next_delivery) world.subscribers q linked.numbers tt)
-    (all_push (BeginsEmpty schema) world.subscribers q h.subscriptions.bases refl) h)
+    (all_push (BeginsWithoutRows schema) world.subscribers q h.subscriptions.bases (tables_are_begun keeps schema)) h)
 
 pub subscribe_tells : SubscribeShows → (schema : List Shape) (old : State) (world : World) (start : ℕ) → IsWorld old
-    → IsToldBy schema old world → TellingGoes schema world (event.Subscribe start) (out.subscribed old start)
+    → IsToldBy schema old world
+    → TellingGoes schema world (event.Subscribe start) (out.subscribed old start (tables_begun true old.schema))
 subscribe_tells shows schema old world start good h =
     let call = desk.subscribe old.desk start in
-    subscribed_tells shows schema old world start (answer_after old.steps call.0) call.1 (call_after old.steps call)
-    good h
+    subscribed_tells shows true schema old world (event.Subscribe start) start (answer_after old.steps call.0) call.1
+    (record { begins = λ s link. refl; refused = λ why. refl }) (call_after old.steps call) good h
+
+pub subscribe_bare_tells : SubscribeShows → (schema : List Shape) (old : State) (world : World) (start : ℕ)
+    → IsWorld old → IsToldBy schema old world
+    → TellingGoes schema world (event.SubscribeBare start) (out.subscribed old start (tables_begun false old.schema))
+subscribe_bare_tells shows schema old world start good h =
+    let call = desk.subscribe old.desk start in
+    subscribed_tells shows false schema old world (event.SubscribeBare start) start (answer_after old.steps call.0)
+    call.1 (record { begins = λ s link. refl; refused = λ why. refl }) (call_after old.steps call) good h
 
 -- ---- one goes on under another link
 

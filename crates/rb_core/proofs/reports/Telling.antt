@@ -15,7 +15,7 @@ use Rattle.rb_core.specs.declared.event.Event.{Event}
 use Rattle.rb_core.specs.declared.reply.Reply.{Reply}
 use Rattle.rb_core.specs.Moves.{with_subscriber, IsNew, IsUnused, Moves, Leads}
 use Rattle.rb_core.specs.Outcome.{with_endpoint}
-use Rattle.rb_core.specs.State.{State, IsWorld, empty_tables, is_withdrawn, member_of_end}
+use Rattle.rb_core.specs.State.{State, AreTablesBegun, IsWorld, is_withdrawn, member_of_end}
 use Rattle.rb_core.specs.Told.{told, subscriber_set, subscriber_changed, delivery_told, Paired, IsSender, IsDelivered}
 use Rattle.rb_core.specs.Told.{AreBelow, IsToldBy}
 use Rattle.rb_core.specs.World.{Subscriber, World, endpoint_of}
@@ -97,9 +97,9 @@ later_numbers n subs below = all_map (AreBelow n) (AreBelow (suc n)) subs (later
 
 -- ---- subscriptions
 
--- a subscription began with empty tables
-abbrev pub BeginsEmpty : List Shape → Subscriber → Type 0
-BeginsEmpty schema q = q.base ≡ empty_tables schema
+-- a subscription began with tables without rows, all of them kept or none
+abbrev pub BeginsWithoutRows : List Shape → Subscriber → Type 0
+BeginsWithoutRows schema q = AreTablesBegun schema q.base
 
 -- what stands in the place of a subscription that is there
 pub changed_is : (old : World) (s : ℕ) (change : Subscriber → Subscriber) (q : Subscriber) → slice_get old.subscribers s
@@ -165,7 +165,7 @@ pub with_subscriptions : (schema : List Shape) (old new : State) (world after : 
     → AllByRecursion (IsDelivered after.subscribers) new.deliveries
     → AllByRecursion (λ link. link < new.desk.next_link) after.links
     → AllByRecursion (AreBelow new.desk.next_delivery) after.subscribers
-    → AllByRecursion (BeginsEmpty schema) after.subscribers → IsToldBy schema old world
+    → AllByRecursion (BeginsWithoutRows schema) after.subscribers → IsToldBy schema old world
     → IsToldBy schema
     (record old { desk = new.desk; steps = new.steps; endpoints = new.endpoints; deliveries = new.deliveries })
     (record world { closing = after.closing; links = after.links; subscribers = after.subscribers })
@@ -202,8 +202,9 @@ telling_with_both schema old world s q r end found base same is h =
     (all_set (AreBelow old.desk.next_delivery) world.subscribers s r told.numbers
     (subst (AllByRecursion (λ (o : Delivery). o.number < old.desk.next_delivery)) (sym same)
     (all_get (AreBelow old.desk.next_delivery) world.subscribers s q told.numbers found)))
-    (all_set (BeginsEmpty schema) world.subscribers s r told.bases
-    (base ∙ all_get (BeginsEmpty schema) world.subscribers s q told.bases found)) h
+    (all_set (BeginsWithoutRows schema) world.subscribers s r told.bases
+    (subst (AreTablesBegun schema) (sym base)
+    (all_get (BeginsWithoutRows schema) world.subscribers s q told.bases found))) h
 
 -- ---- the desk
 

@@ -16,12 +16,12 @@ use Rattle.rb_core.specs.declared.reply.Reply.TheVariants as reply
 use Rattle.rb_core.specs.declared.reply.BrokerRefusal.{BrokerRefusal}
 use Rattle.rb_core.specs.declared.reply.BrokerRefusal.TheVariants as refusal
 use Rattle.rb_core.specs.Outcome.{outcome, delivery_of, accepted_by, accepted_at, accepted_as}
-use Rattle.rb_core.specs.State.{State, empty_tables}
+use Rattle.rb_core.specs.State.{State}
 use Rattle.rb_core.specs.World.{Subscriber, World, world_begun, endpoint_of}
 use Rattle.rb_core.proofs.headline.Moving.{all_get}
 use Rattle.rb_core.proofs.headline.Singly.{SinglyLaws, columns_stay, part_of_changesets}
-use Rattle.rb_core.proofs.reports.Telling.{BeginsEmpty, IsTold, subscriber_of_end}
-use Rattle.rb_core.proofs.whole_runs.ToldLaws.{empty_have_columns}
+use Rattle.rb_core.proofs.reports.Telling.{BeginsWithoutRows, IsTold, subscriber_of_end}
+use Rattle.rb_core.proofs.whole_runs.ToldLaws.{begun_have_columns}
 
 -- ---- the event
 
@@ -91,10 +91,10 @@ conflict_in_run law laws schema old world d conflict told valid refuses =
     let q = at.0 in
     let refused : accept (endpoint_of q) old.sequence delivery ≡ Err (why.Conflict conflict) =
     subst (λ e. accept e old.sequence delivery ≡ Err (why.Conflict conflict)) (sym at.2) refuses.4 in
-    let base : q.base ≡ empty_tables schema =
-    all_get (BeginsEmpty schema) world.subscribers delivery.sub q told.1.subscriptions.bases at.1 in
+    let begun =
+    all_get (BeginsWithoutRows schema) world.subscribers delivery.sub q told.1.subscriptions.bases at.1 in
     let have = columns_stay laws told.0.0 world delivery.sub q told.0.1 at.1 valid
-    (subst HaveColumns (sym base) (empty_have_columns schema)) in
+    (begun_have_columns schema q.base begun) in
     let placed : AreChangesets old.sequence = subst AreChangesets told.1.sequence valid in
     let brings = part_of_changesets old.sequence (delivery.first - 1) (suc delivery.last - delivery.first) placed in
     (delivery, q, refuses.2, at.1, law (endpoint_of q) old.sequence delivery conflict brings have refused)

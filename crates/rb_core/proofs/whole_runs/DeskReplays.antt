@@ -12,6 +12,7 @@ use Rattle.cs_parse.specs.declared.end.EndError.{EndError}
 use Rattle.cs_parse.specs.End.{admitted_answer}
 use Rattle.cs_parse.specs.Progress as stream
 use Rattle.rb_desk.proofs.journals.KeepLaws.{call_after, close_again}
+use Rattle.cs_apply.specs.State.{TableState}
 use Rattle.rb_desk.specs.Calls as desk
 use Rattle.rb_desk.specs.declared.delivery.Delivery.{Delivery}
 use Rattle.rb_desk.specs.declared.refusal.DeskRefusal.{DeskRefusal}
@@ -35,7 +36,7 @@ use Rattle.rb_core.specs.DeskSteps.{ack_asked, step_asked, step_made, desk_steps
 use Rattle.rb_core.specs.Outcome.{outcome, delivery_of, entry_of}
 use Rattle.rb_core.specs.Outcome as outcome
 use Rattle.rb_core.specs.Run.{Answer, Run}
-use Rattle.rb_core.specs.State.{State, empty_world, is_withdrawn}
+use Rattle.rb_core.specs.State.{State, bare_tables, empty_tables, empty_world, is_withdrawn}
 
 -- ---- one step, or none
 
@@ -188,11 +189,12 @@ closed_replays old new (Some last) is left counted =
 
 -- ---- subscriptions
 
-subscribed_replays : (old : State) (start : ℕ) (r : Result (ℕ × ℕ) DeskRefusal)
-    → MadeBy old (Some (step.Subscribe start)) (outcome.subscribed_by old start r (desk.subscribe old.desk start).1).1
+subscribed_replays : (old : State) (start : ℕ) (begun : TableState) (r : Result (ℕ × ℕ) DeskRefusal)
+    → MadeBy old (Some (step.Subscribe start))
+    (outcome.subscribed_by old start begun r (desk.subscribe old.desk start).1).1
 unfolding after_step
-subscribed_replays old start (Ok made) = step_to old (step.Subscribe start) _ refl
-subscribed_replays old start (Err why) = unmoved old (Some (step.Subscribe start))
+subscribed_replays old start begun (Ok made) = step_to old (step.Subscribe start) _ refl
+subscribed_replays old start begun (Err why) = unmoved old (Some (step.Subscribe start))
 
 handed_replays : (old : State) (made : Step) (r : Result Delivery DeskRefusal) (new : Picture)
     → new ≡ after_step old.desk made → MadeBy old (Some made) (outcome.delivered_by old r new).1
@@ -340,7 +342,11 @@ event_replays old (event.Withdraw p n) = withdraw_replays old p n (slice_get old
 event_replays old event.Turn = turned_replays (outcome.pulled old) (outcome.pulled old).hand
 event_replays old event.Close = closed_replays old (outcome.closed old).1 old.desk.closing refl refl refl
 event_replays old (event.Subscribe start) =
-    subscribed_replays old start (answer_after old.steps (desk.subscribe old.desk start).0)
+    subscribed_replays old start (empty_tables old.schema)
+    (answer_after old.steps (desk.subscribe old.desk start).0)
+event_replays old (event.SubscribeBare start) =
+    subscribed_replays old start (bare_tables old.schema)
+    (answer_after old.steps (desk.subscribe old.desk start).0)
 event_replays old (event.Take s now) = taken_replays old s now (slice_get old.endpoints s)
 event_replays old (event.TakeAny now) = taken_any_replays old now
 event_replays old (event.Accept d) = accept_replays old (delivery_of old d)

@@ -20,7 +20,7 @@ use Rattle.rb_core.proofs.reports.TellPublishers.{reset_tells, end_tells, send_t
 use Rattle.rb_core.proofs.reports.TellWithdrawals.{withdraw_tells}
 use Rattle.rb_core.proofs.reports.TellSequence.{PlaceShows, CloseShows, turn_tells, close_tells}
 use Rattle.rb_core.proofs.reports.TellSubscriptions.{SubscribeShows, ReconnectShows, UnsubscribeShows, subscribe_tells}
-use Rattle.rb_core.proofs.reports.TellSubscriptions.{reconnect_tells, unsubscribe_tells}
+use Rattle.rb_core.proofs.reports.TellSubscriptions.{subscribe_bare_tells, reconnect_tells, unsubscribe_tells}
 use Rattle.rb_core.proofs.reports.TellDeliveries.{TakeShows, TakeAnyShows, AckShows, NackShows, OpenShows, ExpireShows}
 use Rattle.rb_core.proofs.reports.TellFalls.{crash_tells, resume_tells}
 use Rattle.rb_core.proofs.reports.TellDeliveries.{AcceptSteps, take_tells, take_any_tells, accept_tells, ack_tells}
@@ -68,6 +68,8 @@ outcome_tells laws schema old world event.Turn feeds good h = turn_tells laws.pl
 outcome_tells laws schema old world event.Close feeds good h = close_tells laws.close schema old world good h
 outcome_tells laws schema old world (event.Subscribe start) feeds good h =
     subscribe_tells laws.subscribe schema old world start good h
+outcome_tells laws schema old world (event.SubscribeBare start) feeds good h =
+    subscribe_bare_tells laws.subscribe schema old world start good h
 outcome_tells laws schema old world (event.Take s now) feeds good h = take_tells laws.take schema old world s now good h
 outcome_tells laws schema old world (event.TakeAny now) feeds good h =
     take_any_tells laws.take_any schema old world now good h

@@ -1,20 +1,21 @@
 -- Laws of runs, from the laws of the courses that they report.
-use Rattle.std.proofs.Common.{◌≡◌, ℕ, zero, suc, true, List, [], ◌∷◌, Some, sym, ap, subst, ◌∙◌}
+use Rattle.std.proofs.Common.{◌≡◌, ℕ, zero, suc, inl, inr, Bool, true, false, List, [], ◌∷◌, Some, sym, ap, subst, ◌∙◌}
 use Rattle.std.specs.Prelude.{slice_get, map as list_map}
 use Rattle.std.specs.FinMap as map
 use Rattle.cs_model.specs.declared.shape.Shape.{Shape}
 use Rattle.cs_model.specs.Key.{row_key_cmp}
 use Rattle.cs_apply.specs.Columns.{HaveColumns}
+use Rattle.cs_apply.specs.State.{TableState}
 use Rattle.rb_subscriber.specs.Accept.{AreChangesets, HasSingleTables}
 use Rattle.rb_subscriber.specs.Batches.{HasBatchTables}
 use Rattle.rb_subscriber.specs.Endpoint.{Endpoint}
 use Rattle.rb_core.specs.Moves.{Leads, HasRun, StaysClosed}
-use Rattle.rb_core.specs.State.{State, empty_tables}
+use Rattle.rb_core.specs.State.{State, AreTablesBegun, tables_begun}
 use Rattle.rb_core.specs.Told.{IsToldBy}
 use Rattle.rb_core.specs.World.{Subscriber, World, world_begun, endpoint_of}
 use Rattle.rb_core.proofs.headline.Closing.{nothing_placed, nothing_accepted}
 use Rattle.rb_core.proofs.headline.Moving.{all_get}
-use Rattle.rb_core.proofs.reports.Telling.{BeginsEmpty, IsTold}
+use Rattle.rb_core.proofs.reports.Telling.{BeginsWithoutRows, IsTold}
 
 -- the thing at a place of a list, and what is made of it
 mapped_at : {A B : Type 0} (f : A → B) (xs : List A) (i : ℕ) (x : A) → slice_get xs i ≡ Some x
@@ -53,9 +54,16 @@ pub left_run : (schema : List Shape) (new : State) (old world : World) (s : ℕ)
 left_run schema new old world s subscriber told found closed =
     nothing_accepted old told.0.0 world s subscriber found closed told.0.1
 
+-- tables without rows have their columns
+no_rows_have_columns : (keeps : Bool) (schema : List Shape) → HaveColumns (tables_begun keeps schema)
+no_rows_have_columns keeps schema key row found =
+    absurd (let no = sym (map.get-empty row_key_cmp key) ∙ found in cc)
+
+pub begun_have_columns : (schema : List Shape) (begun : TableState) → AreTablesBegun schema begun → HaveColumns begun
+begun_have_columns schema begun (inl is) = subst HaveColumns (sym is) (no_rows_have_columns true schema)
+begun_have_columns schema begun (inr is) = subst HaveColumns (sym is) (no_rows_have_columns false schema)
+
 -- a subscription of which the course says that its tables are those of single application
-pub empty_have_columns : (schema : List Shape) → HaveColumns (empty_tables schema)
-empty_have_columns schema key row found = absurd (let no = sym (map.get-empty row_key_cmp key) ∙ found in cc)
 
 pub singly_run : ((mids : List World) (new : World) (s : ℕ) (subscriber : Subscriber) → Leads world_begun mids new
     → slice_get new.subscribers s ≡ Some subscriber → AreChangesets new.sequence → HaveColumns subscriber.base
@@ -64,14 +72,13 @@ pub singly_run : ((mids : List World) (new : World) (s : ℕ) (subscriber : Subs
     → IsTold schema world_begun new world → slice_get world.subscribers s ≡ Some subscriber
     → AreChangesets world.sequence → slice_get new.endpoints s ≡ Some (endpoint_of subscriber)
     → (end : Endpoint) × (slice_get new.endpoints s ≡ Some end)
-    × HasSingleTables (empty_tables schema) subscriber.accepted end.tables
+    × HasSingleTables subscriber.base subscriber.accepted end.tables × AreTablesBegun schema subscriber.base
 singly_run law schema new world s subscriber told found valid at =
-    let base = all_get (BeginsEmpty schema) world.subscribers s subscriber told.1.subscriptions.bases found in (
+    let begun = all_get (BeginsWithoutRows schema) world.subscribers s subscriber told.1.subscriptions.bases found in (
       endpoint_of subscriber,
       at,
-      subst (λ t. HasSingleTables t subscriber.accepted subscriber.tables) base
-          (law told.0.0 world s subscriber told.0.1 found valid
-          (subst HaveColumns (sym base) (empty_have_columns schema))),
+      law told.0.0 world s subscriber told.0.1 found valid (begun_have_columns schema subscriber.base begun),
+      begun,
     )
 
 -- a subscription of which the course says that its tables are those of its batches
@@ -82,11 +89,6 @@ pub batched_run : ((mids : List World) (new : World) (s : ℕ) (subscriber : Sub
     → IsTold schema world_begun new world → slice_get world.subscribers s ≡ Some subscriber
     → slice_get new.endpoints s ≡ Some (endpoint_of subscriber)
     → (end : Endpoint) × (slice_get new.endpoints s ≡ Some end)
-    × HasBatchTables (empty_tables schema) subscriber.batches subscriber.accepted end.tables
+    × HasBatchTables subscriber.base subscriber.batches subscriber.accepted end.tables
 batched_run law schema new world s subscriber told found at =
-    let base = all_get (BeginsEmpty schema) world.subscribers s subscriber told.1.subscriptions.bases found in (
-      endpoint_of subscriber,
-      at,
-      subst (λ t. HasBatchTables t subscriber.batches subscriber.accepted subscriber.tables) base
-          (law told.0.0 world s subscriber told.0.1 found),
-    )
+    (endpoint_of subscriber, at, law told.0.0 world s subscriber told.0.1 found)

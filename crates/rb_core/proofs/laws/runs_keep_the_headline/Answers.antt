@@ -7,7 +7,10 @@ returns c = λ limits schema events answers new run. record {
       (c.accepted_is_gapless.ensures.run limits schema events answers new s subscriber run found).0;
   endpoints = c.accepted_is_gapless.ensures.all limits schema events answers new run;
   tables = λ s subscriber found.
-      c.tables_apply_singly.ensures limits schema events answers new s subscriber run found;
+      let is = c.tables_apply_singly.ensures limits schema events answers new s subscriber run found in
+      (is.0, is.1, is.2);
+  begun = λ s subscriber found.
+      (c.tables_apply_singly.ensures limits schema events answers new s subscriber run found).3;
   batches = λ s subscriber found.
       c.tables_are_of_batches.ensures limits schema events answers new s subscriber run found;
   in_order = λ p sender found.

@@ -41,5 +41,6 @@ returns c = record {
   closed = on_ok _ _ c.served.result (λ r all. (keeps c r all).closed) c.served.ensures;
   left = on_ok _ _ c.served.result (λ r all. (keeps c r all).left) c.served.ensures;
   tables = on_ok _ _ c.served.result (λ r all. (keeps c r all).tables) c.served.ensures;
+  begun = on_ok _ _ c.served.result (λ r all. (keeps c r all).begun) c.served.ensures;
   batches = on_ok _ _ c.served.result (λ r all. (keeps c r all).batches) c.served.ensures;
 }
