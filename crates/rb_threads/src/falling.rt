@@ -13,8 +13,8 @@ use std::sync::Wait;
 use std::test::Fail;
 use std::thread::Threads;
 
-/// A store that keeps nothing, and promises nothing. Its second commit fails; its error is how often
-/// it was asked.
+/// A store that keeps nothing, and promises nothing. Its second commit fails, and its error is how
+/// often it was asked.
 #[derive(Drop)]
 pub struct FailingStore {
     pub commits: u64,

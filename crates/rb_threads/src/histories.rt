@@ -3,19 +3,18 @@
 
 ghost use Rattle.std.specs.Prelude.{◌≡◌};
 
+use crate::finishing::{LEFT, MOST_WAITING, UNFINISHED, finishes};
 use crate::given::{insert, opened};
 use crate::history::{History, Said};
 use crate::rows::{
     A_CONFLICT_IS_NO_FALL, A_LATE_CLOCK_IS_NO_EARLIER_ONE, A_NEW_LINK_AT_THE_FRONT,
-    A_NEW_LINK_CUTS_ANEW, A_REFUSED_BATCH_IS_OPENED, CLOSED_BEFORE_THE_TAKES, CLOSED_SEQUENCE,
-    FOREIGN_DELIVERIES_ARE_REFUSED, FULL_INTAKE, LEFT, MOST_IN_A_BATCH, MOST_WAITING,
-    ONE_MORE_AND_THE_LAST, RESUMED_FROM_AFTER, RESUMED_FROM_BEFORE, Row, SEGMENT,
-    THE_WINDOW_AND_THE_FLOOR, THREE_SEGMENTS, UNFINISHED, WHAT_EXPIRES_IS_DELIVERED_AGAIN,
+    A_NEW_LINK_CUTS_ANEW, A_REFUSED_BATCH_IS_OPENED, AN_ACCEPTED_ONE_COMES_BACK_WHOLE,
+    ANY_TAKES_AT_ITS_TICK, CLOSED_BEFORE_THE_TAKES, CLOSED_SEQUENCE,
+    FOREIGN_DELIVERIES_ARE_REFUSED, FULL_INTAKE, ONE_MORE_AND_THE_LAST, RESUMED_FROM_AFTER,
+    RESUMED_FROM_BEFORE, Row, THE_WINDOW_AND_THE_FLOOR, WHAT_EXPIRES_IS_DELIVERED_AGAIN,
     WHAT_IS_GIVEN_BACK_GOES_TO_ANY, WITHDRAWAL,
 };
-use rb_broker::{Hall, MOST_PUBLISHERS, Opened, PlaceRefusal, Publisher, TakeError};
-use rb_close::{FinishRefusal, Finished, Unfinished, finish};
-use rb_sequence::Item;
+use rb_broker::{Hall, MOST_PUBLISHERS, Opened};
 use rb_subscriber::MOST_SUBSCRIPTIONS;
 use std::alloc::Global;
 use std::marker::Brand;
@@ -23,6 +22,15 @@ use std::process::Abort;
 use std::sync::Wait;
 use std::test::Fail;
 use std::thread::Threads;
+
+// the numbers of a segment
+const SEGMENT: u64 = 65_536;
+
+// two segments of these, and one entry more
+const THREE_SEGMENTS: u64 = 131_073;
+
+// the most numbers in a delivery
+const MOST_IN_A_BATCH: u64 = 256;
 
 #[test]
 fn publishing(rt: HostRuntime) -> Result<(), Fail> {
@@ -42,6 +50,8 @@ fn deliveries(rt: HostRuntime) -> Result<(), Fail> {
     for row in [
         THE_WINDOW_AND_THE_FLOOR,
         WHAT_IS_GIVEN_BACK_GOES_TO_ANY,
+        AN_ACCEPTED_ONE_COMES_BACK_WHOLE,
+        ANY_TAKES_AT_ITS_TICK,
         A_REFUSED_BATCH_IS_OPENED,
         A_NEW_LINK_CUTS_ANEW,
         A_NEW_LINK_AT_THE_FRONT,
@@ -164,7 +174,8 @@ fn ends<L: Hall, R: Wait + Abort>(
         Scenario::Rows(_lines, steps) => counts(rt, alloc, history, steps),
         Scenario::Finish => finishes(rt, alloc, history, &LEFT),
         Scenario::FinishFull => finishes(rt, alloc, history, &[]),
-        Scenario::Fill | Scenario::Crowd => Ok(()),
+        Scenario::Crowd => counts(rt, alloc, history, 1),
+        Scenario::Fill => Ok(()),
     }
 }
 
@@ -306,143 +317,4 @@ fn crowds<L: Hall, R: Threads + Wait + Abort + Sync>(
         history.run(rt, alloc, "subscribe 0 = Made")?;
     }
     history.run(rt, alloc, str::from_utf8(ONE_MORE_AND_THE_LAST)?)
-}
-
-// Each refusal hands all back. That the sequence is open comes before that a publisher is missing.
-// What is left is the item in hand, then what waits in the intake: these, or the sendings of one
-// publisher after its first if none are named.
-fn finishes<L: Hall, R: Wait + Abort>(
-    rt: &R,
-    alloc: Global,
-    history: History<L>,
-    left: &[(u64, u64)],
-) -> Result<(), Fail> {
-    let (open, last) = without_one(unfinished(history))?;
-    let open = refused(rt, alloc, open, FinishRefusal::NotClosed)?;
-    assert_eq!(rt; open.broker.close(rt).map(|told| told.last()), Some(1));
-    let one = refused(rt, alloc, open, FinishRefusal::Missing)?;
-    match try_twice(rt, alloc, with_one(one, last)?) {
-        Ok(finished) => has_left(rt, alloc, &finished, left),
-        Err(_) => Err(Fail::new("nothing is missing")),
-    }
-}
-
-fn unfinished<L: Hall>(history: History<L>) -> Unfinished<L> {
-    let History {
-        broker,
-        sequencer,
-        maker,
-        publishers,
-        ..
-    } = history;
-    Unfinished {
-        why: FinishRefusal::Missing,
-        publishers,
-        sequencer,
-        maker,
-        broker,
-    }
-}
-
-// without its last publisher
-fn without_one<L: Hall>(mut all: Unfinished<L>) -> Result<(Unfinished<L>, Publisher<L>), Fail> {
-    match all.publishers.pop() {
-        Some(last) => Ok((all, last)),
-        None => Err(Fail::new("there are two publishers")),
-    }
-}
-
-fn with_one<L: Hall>(mut all: Unfinished<L>, one: Publisher<L>) -> Result<Unfinished<L>, Fail> {
-    all.publishers.push(one)?;
-    Ok(all)
-}
-
-// what comes back of a broker that is refused for this
-fn refused<L: Hall, R: Wait + Abort>(
-    rt: &R,
-    alloc: Global,
-    all: Unfinished<L>,
-    why: FinishRefusal,
-) -> Result<Unfinished<L>, Fail> {
-    let many = all.publishers.len();
-    match try_twice(rt, alloc, all) {
-        Ok(_) => Err(Fail::new("it is finished")),
-        Err(back) => {
-            assert!(rt; back.why == why && back.publishers.len() == many);
-            Ok(back)
-        }
-    }
-}
-
-// Finishes, and once more if memory runs out.
-fn try_twice<L: Hall, R: Wait>(
-    rt: &R,
-    alloc: Global,
-    all: Unfinished<L>,
-) -> Result<Finished, Unfinished<L>> {
-    let back = match try_once(rt, alloc, all) {
-        Ok(finished) => return Ok(finished),
-        Err(back) => back,
-    };
-    if back.why == FinishRefusal::Memory {
-        try_once(rt, alloc, back)
-    } else {
-        Err(back)
-    }
-}
-
-fn try_once<L: Hall, R: Wait>(
-    rt: &R,
-    alloc: Global,
-    all: Unfinished<L>,
-) -> Result<Finished, Unfinished<L>> {
-    let Unfinished {
-        publishers,
-        sequencer,
-        maker,
-        broker,
-        why: _why,
-    } = all;
-    let closing = broker.sequence().closing();
-    finish(
-        rt,
-        alloc,
-        closing.as_ref(),
-        publishers,
-        sequencer,
-        maker,
-        broker,
-    )
-}
-
-fn has_left<R: Abort>(
-    rt: &R,
-    alloc: Global,
-    finished: &Finished,
-    left: &[(u64, u64)],
-) -> Result<(), Fail> {
-    assert_eq!(rt; (finished.placed, finished.closing.last()), (1, 1));
-    assert!(rt; finished.sequence.get(1).is_some());
-    are_left(rt, &finished.left, left);
-    let refused = PlaceRefusal::Closed(finished.closing.again());
-    let drained = TakeError::Drained(finished.closing.again());
-    let said = format!(in alloc; "{refused}, {drained}")?;
-    let text = "the sequence is closed, everything up to the last number is settled";
-    assert_eq!(rt; said.as_str(), text);
-    Ok(())
-}
-
-// as `finishes` says
-fn are_left<R: Abort>(rt: &R, items: &[Item], left: &[(u64, u64)]) {
-    if left.is_empty() {
-        assert_eq!(rt; items.len() as u64, MOST_WAITING + 1);
-        for (item, own) in items.iter().zip(2_u64..) {
-            assert_eq!(rt; (item.publisher(), item.own()), (0, own));
-        }
-        return;
-    }
-    assert_eq!(rt; items.len(), left.len());
-    for (item, own) in items.iter().zip(left) {
-        assert_eq!(rt; (item.publisher(), item.own()), *own);
-    }
 }

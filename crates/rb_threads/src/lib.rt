@@ -13,6 +13,8 @@ mod entered;
 #[cfg(test)]
 mod falling;
 #[cfg(test)]
+mod finishing;
+#[cfg(test)]
 mod given;
 #[cfg(test)]
 mod histories;

@@ -53,7 +53,9 @@ close = Closed(0)
 send 0 2 = Closed(0)
 send 0 2 = Closed(0)
 turn = Closed(0)
-hand = Hand(Some((0, 1)))",
+hand = Hand(Some((0, 1)))
+publisher = Publisher(1)
+send 1 1 = Closed(0)",
     0,
 );
 
@@ -119,8 +121,39 @@ accept 0 0 = Refused(Closed)
 unsubscribe 0 = Desk(Closed)
 reconnect 0 = Desk(Closed)
 ack 0 3 = Desk(NotInFlight)
-any 0 = Desk(Empty { front: 3 })",
+any 0 = Desk(Empty { front: 3 })
+put 4 = Placed(4)",
     5,
+);
+
+// a nack neither opens what was accepted nor settles it
+pub const AN_ACCEPTED_ONE_COMES_BACK_WHOLE: Row = (
+    (16, 4, 16, 4),
+    b"\
+subscribe 0 = Made
+put 1 = Placed(1)
+put 2 = Placed(2)
+take 0 0 = Delivery(1, 0, 1, 2)
+nack 0 0 = Done
+take 0 0 = Delivery(2, 0, 1, 2)
+accept 0 1 = Accepted(2)
+nack 0 1 = Done
+take 0 0 = Delivery(3, 0, 1, 2)
+accept 0 2 = Refused(Seen)
+ack 0 2 = Floor(2)",
+    6,
+);
+
+pub const ANY_TAKES_AT_ITS_TICK: Row = (
+    (16, 4, 16, 4),
+    b"\
+subscribe 0 = Made
+put 1 = Placed(1)
+any 5 = Delivery(1, 0, 1, 1)
+expire 14 = Expired(0)
+expire 15 = Expired(1)
+any 15 = Delivery(2, 0, 1, 1)",
+    0,
 );
 
 pub const A_REFUSED_BATCH_IS_OPENED: Row = (
@@ -284,6 +317,8 @@ durable 0 1 = StoreFailed(2)
 durable 0 0 = Refused(Store)
 durable 0 1 = Refused(Store)
 durable 0 2 = Refused(Store)
+take 0 0 = Desk(Empty { front: 7 })
+ack 0 0 = Floor(3)
 fall = Fell(3, 5, 2)
 fits 3 3 = Fits(true)
 fits 5 5 = Fits(true)
@@ -304,7 +339,7 @@ ack 0 3 = Floor(5)
 take 0 0 = Delivery(5, 0, 6, 7)
 durable 0 4 = Accepted(7)
 ack 0 4 = Floor(7)",
-    8,
+    9,
 );
 
 pub const A_CONFLICT_IS_NO_FALL: Row = (
@@ -344,7 +379,8 @@ resume 5 5 = Link(2)
 durable 0 2 = Refused(StaleLink)
 take 0 0 = Delivery(4, 0, 6, 7)
 durable 0 3 = Accepted(7)
-ack 0 3 = Floor(7)",
+ack 0 3 = Floor(7)
+put 3 = Placed(8)",
     6,
 );
 
@@ -355,27 +391,3 @@ send 63 1 = Sent(1)
 subscribe 0 = Desk(TooMany)
 turn = Placed(1)
 take 1023 0 = Delivery(1, 1023, 1, 1)";
-
-// one is placed, one in hand, and two wait
-pub const UNFINISHED: &[u8] = b"\
-publisher = Publisher(1)
-put 1 = Placed(1)
-send 1 4 = Sent(1)
-send 0 2 = Sent(2)
-send 0 3 = Sent(3)
-turn = SequenceFull";
-
-// the publisher and the own number of each item that is left then
-pub const LEFT: [(u64, u64); 3] = [(1, 1), (0, 2), (0, 3)];
-
-// the most items that wait
-pub const MOST_WAITING: u64 = 4_096;
-
-// the numbers of a segment
-pub const SEGMENT: u64 = 65_536;
-
-// two segments of these, and one entry more
-pub const THREE_SEGMENTS: u64 = 131_073;
-
-// the most numbers in a delivery
-pub const MOST_IN_A_BATCH: u64 = 256;
