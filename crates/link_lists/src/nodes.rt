@@ -2,7 +2,7 @@
 
 ghost use Rattle.std.specs.Prelude.{◌≡◌, ◌<◌, ◌≤◌, [], ◌∷◌, ◌++◌, length, slice_get};
 ghost use Rattle.std.specs.Prelude.{slice_index_or, Some, None, IsSome, IfOk, OnErr, OnOk, IsTrue};
-ghost use Rattle.std.specs.Prelude.{◌↔◌, option_copied, vec_len};
+ghost use Rattle.std.specs.Prelude.{◌↔◌, option_copied, vec_len, count_by, is_some};
 ghost use Rattle.std.specs.Borrow.{sem};
 ghost use Rattle.link_lists.specs.Nodes.{no_strand, strand_of, link_under, link_set, with_ends};
 ghost use Rattle.link_lists.specs.Nodes.{on_lane, no_ends, with_list, without_node, IsAlike};
@@ -70,6 +70,12 @@ impl<T> Nodes<T> {
         ensures { result ≡ self.now.spare }
     {
         self.nodes.capacity() - self.nodes.len()
+    }
+
+    pub(crate) fn len(&self) -> usize
+        ensures { result ≡ count_by is_some self.now.slots }
+    {
+        self.nodes.len()
     }
 
     pub(crate) fn add_list(&mut self, lane: Lane) -> Result<usize, AllocError>

@@ -72,6 +72,13 @@ impl<T> Woven<T> {
         self.nodes.spare()
     }
 
+    /// How many values there are.
+    pub fn len(&self) -> usize
+        ensures { result ≡ value_count self.now }
+    {
+        self.nodes.len()
+    }
+
     /// Each key in a list has a value, and no key stands twice in a lane. Does nothing: its
     /// contract is for proofs.
     pub fn valid(&self)

@@ -10,6 +10,7 @@ pub mod OnceLaws
 pub mod ReadyLaws
 pub mod LeastLaws
 pub mod OutLaws
+pub mod CountLaws
 pub mod SoonLaws
 pub mod BeginLaws
 pub mod MoveLaws

@@ -7,5 +7,6 @@ pub mod ChangeLaws
 pub mod LaneChanges
 pub mod FirstLaws
 pub mod FoundLaws
+pub mod ManyLaws
 pub mod OpenedLaws
 pub mod OpenedSpans

@@ -65,6 +65,10 @@ beginning first = find (λ p. p.first == first)
 abbrev pub how_many_out : List Span → ℕ
 how_many_out spans = length (filter (λ p. is_out p.status) spans)
 
+-- how many are ready
+abbrev pub how_many_ready : List Span → ℕ
+how_many_ready spans = length (filter (λ p. is_ready p.status) spans)
+
 -- sets the status of the span that begins with this number
 abbrev pub with_status : ℕ → Status → List Span → List Span
 with_status first status [] = []

@@ -3,7 +3,7 @@
 -- their deliveries' numbers; the second lane has all of them by their own numbers.
 use Rattle.std.specs.Prelude.{◌≡◌, ℕ, ◌<◌, Bool, true, false, ◌&&◌, nat_eq, ◌==◌, List, [], ◌∷◌}
 use Rattle.std.specs.Prelude.{length, map, Option, Some, None, IsSome, slice_index_or, slice_set}
-use Rattle.std.specs.Prelude.{◌+◌, if◌then◌else◌}
+use Rattle.std.specs.Prelude.{◌+◌, is_some, if◌then◌else◌}
 use Rattle.std.specs.List.{list_any, AllByRecursion}
 use Rattle.link_lists.specs.Lanes.{Lanes, ChangesSlot, StandsIn, pushed_back, put_after}
 use Rattle.link_lists.specs.Lanes.{value_under, without_key}
@@ -82,12 +82,14 @@ ticket_under slots key = (held_under slots key).ticket
 abbrev pub number_under : List (Option Held) → ℕ → ℕ
 number_under slots key = number_of (held_under slots key).span.status
 
--- the ready ones stand in the first list, those in flight in the second, each once
+-- the ready ones stand in the first list, those in flight in the second, each once; each record's
+-- key is one of all
 pub record AreListed (slots : List (Option Held)) (ready out all : List ℕ) : Type 0 where
   pub ready_keys : (key : ℕ) → lists_key key ready
       ≡ (lists_key key all && slot_passes is_ready slots key)
   pub out_keys : (key : ℕ) → lists_key key out
       ≡ (lists_key key all && slot_passes is_out slots key)
+  pub all_keys : (key : ℕ) → lists_key key all ≡ is_some (slice_index_or slots key None)
   pub in_line : RisingTickets (map (ticket_under slots) ready)
   pub by_number : RisingNumbers (map (number_under slots) out)
 

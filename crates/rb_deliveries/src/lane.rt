@@ -4,6 +4,7 @@
 ghost use Rattle.std.specs.Prelude.{◌≡◌, ◌<◌, ◌≤◌, slice_get, OnOk, OnErr};
 ghost use Rattle.std.specs.List.{AllByRecursion};
 ghost use Rattle.rb_deliveries.specs.Spans.{cut_spans, first_ready, out_as, how_many_out};
+ghost use Rattle.rb_deliveries.specs.Spans.{how_many_ready};
 ghost use Rattle.rb_deliveries.specs.Lanes.{AreRising, AreLimited, HasNumbers, spans_of, lane_held};
 ghost use Rattle.rb_deliveries.specs.Lanes.{lane_spans, is_none_left, lane_floor, least, cut_lane};
 ghost use Rattle.rb_deliveries.specs.Lanes.{delivered_lane, returned_lane, settled_lane};
@@ -72,6 +73,15 @@ impl Lane {
         ensures { result ≡ how_many_out (spans_of self.now.held) }
     {
         self.held.in_flight()
+    }
+
+    /// How many spans are ready.
+    pub(crate) fn ready(&self, batch: u64, front: u64) -> u64
+        requires { AreLimited batch front }
+        ensures { result ≡ how_many_ready (lane_spans batch front self.now) }
+    {
+        let fresh = (front + 1).saturating_sub(self.next);
+        self.held.ready() + fresh.div_ceil(batch)
     }
 
     /// Whether it has no span.

@@ -45,6 +45,15 @@ pub(crate) fn in_flight(records: &Woven<Held>, flying: u64) -> u64
     flying
 }
 
+/// How many are ready.
+pub(crate) fn ready(records: &Woven<Held>, flying: u64) -> u64
+    requires { AreKept (Some records.now) flying }
+    ensures { result ≡ spans.how_many_ready (spans_of (held_in records.now)) }
+{
+    records.valid();
+    records.len() as u64 - flying
+}
+
 /// The first that is ready, if there is one. Looks at one more than are in flight.
 pub(crate) fn first_ready(records: &Woven<Held>, flying: u64) -> Option<Span>
     requires { AreKept (Some records.now) flying }

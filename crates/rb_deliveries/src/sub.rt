@@ -5,7 +5,7 @@ ghost use Rattle.std.specs.List.{AllByRecursion};
 ghost use Rattle.rb_deliveries.specs.Lanes.{AreRising, AreLimited, HasNumbers, is_none_left};
 ghost use Rattle.rb_deliveries.specs.Lanes.{lane_floor, lane_spans, most_numbers, settled_lane};
 ghost use Rattle.rb_deliveries.specs.Lanes.{spans_of};
-ghost use Rattle.rb_deliveries.specs.Spans.{first_ready, how_many_out};
+ghost use Rattle.rb_deliveries.specs.Spans.{first_ready, how_many_out, how_many_ready};
 
 use crate::lane::Lane;
 use crate::span::{Span, Status};
@@ -123,6 +123,14 @@ impl Sub {
         ensures { result ≡ how_many_out (spans_of self.now.lane.held) }
     {
         self.lane.out()
+    }
+
+    /// How many spans are ready.
+    pub(crate) fn ready(&self, batch: u64, front: u64) -> u64
+        requires { AreLimited batch front }
+        ensures { result ≡ how_many_ready (lane_spans batch front self.now.lane) }
+    {
+        self.lane.ready(batch, front)
     }
 
     /// Whether all its numbers up to `front`, the last one placed, are settled.

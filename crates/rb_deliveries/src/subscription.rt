@@ -4,7 +4,7 @@ ghost use Rattle.std.specs.Prelude.{◌≡◌};
 ghost use Rattle.rb_deliveries.specs.Changes.{has_no_spans};
 ghost use Rattle.rb_deliveries.specs.Lanes.{AreLimited};
 ghost use Rattle.rb_deliveries.specs.Pictured.{pictured_sub};
-ghost use Rattle.rb_deliveries.specs.Spans.{first_ready, how_many_out, out_as};
+ghost use Rattle.rb_deliveries.specs.Spans.{first_ready, how_many_out, how_many_ready, out_as};
 
 use crate::span::Span;
 use crate::sub::Sub;
@@ -38,6 +38,13 @@ impl<'a> SubscriptionRef<'a> {
         ensures { result ≡ pictured_sub batch front sub.now }
     {
         SubscriptionRef { sub, batch, front }
+    }
+
+    /// The number after which it began.
+    pub fn start(&self) -> u64
+        ensures { result ≡ self.now.start }
+    {
+        self.sub.start
     }
 
     /// Its current link.
@@ -76,6 +83,16 @@ impl<'a> SubscriptionRef<'a> {
             return 0;
         }
         self.sub.out()
+    }
+
+    /// How many spans are ready.
+    pub fn ready(&self) -> u64
+        ensures { result ≡ how_many_ready self.now.spans }
+    {
+        if self.sub.closed {
+            return 0;
+        }
+        self.sub.ready(self.batch, self.front)
     }
 
     /// Whether it has no spans.

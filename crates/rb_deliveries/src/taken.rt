@@ -80,6 +80,16 @@ impl Taken {
         }
     }
 
+    /// How many are ready.
+    pub(crate) fn ready(&self) -> u64
+        ensures { result ≡ spans.how_many_ready (spans_of self.now) }
+    {
+        match &self.records {
+            Some(records) => records::ready(records, self.flying),
+            None => 0,
+        }
+    }
+
     /// The first that is ready. Looks at one span more than are in flight.
     pub(crate) fn first_ready(&self) -> Option<Span>
         ensures { result ≡ spans.first_ready (spans_of self.now) }

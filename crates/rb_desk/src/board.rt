@@ -1,6 +1,6 @@
 //! `Board`: the state that all calls of a desk read and change.
 
-ghost use Rattle.std.specs.Prelude.{◌≡◌};
+ghost use Rattle.std.specs.Prelude.{◌≡◌, slice_get};
 ghost use Rattle.rb_desk.specs.Picture.{empty_picture};
 ghost use Rattle.rb_desk.specs.Shown.{FindsLinked};
 
@@ -60,6 +60,13 @@ impl Board {
         ensures { result ≡ self.now.picture.limits }
     {
         self.config
+    }
+
+    /// What is known of a subscription, if there is one with this number.
+    pub(crate) fn subscription(&self, sub: u64) -> Option<SubscriptionRef<'_>>
+        ensures { result ≡ slice_get self.now.picture.subscriptions sub }
+    {
+        self.deliveries.get(sub)
     }
 
     /// The subscription of the caller, if this is its link, or why there is none.

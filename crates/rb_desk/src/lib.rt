@@ -20,7 +20,7 @@ mod tally;
 pub use config::{Config, ConfigFault};
 pub use delivery::Delivery;
 pub use desk::Desk;
-pub use rb_deliveries::{Span, Status};
+pub use rb_deliveries::{Span, Status, SubscriptionRef};
 pub use refusal::{DeskError, DeskRefusal};
 pub use step::Step;
 pub use tally::{MOST_STEPS, TalliedBoard};

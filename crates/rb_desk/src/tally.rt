@@ -1,6 +1,7 @@
 //! `TalliedBoard`: a board that counts its steps, and makes no more than a journal holds.
 
 ghost use Rattle.std.specs.Prelude.{◌≡◌, ◌≤◌, ◌+◌, ℕ, length, Ok, IsOk, OnOk, OnErr};
+ghost use Rattle.std.specs.Prelude.{slice_get};
 ghost use Rattle.rb_desk.specs.Answers.{call_refusal};
 ghost use Rattle.rb_desk.specs.Calls.{subscribe, take, take_any, ack, nack, expire, reconnect};
 ghost use Rattle.rb_desk.specs.Calls.{unsubscribe, prepare, place, close, nack_opened};
@@ -12,6 +13,7 @@ use crate::board::{Board, Caller};
 use crate::config::Config;
 use crate::delivery::Delivery;
 use crate::refusal::{DeskError, DeskRefusal};
+use rb_deliveries::SubscriptionRef;
 use std::alloc::Global;
 use std::marker::Model;
 
@@ -83,6 +85,13 @@ impl TalliedBoard {
         ensures { result ≡ length self.now.picture.subscriptions }
     {
         self.board.made()
+    }
+
+    /// What is known of a subscription, if there is one with this number.
+    pub fn subscription(&self, sub: u64) -> Option<SubscriptionRef<'_>>
+        ensures { result ≡ slice_get self.now.picture.subscriptions sub }
+    {
+        self.board.subscription(sub)
     }
 
     /// The number that `place` would place now.

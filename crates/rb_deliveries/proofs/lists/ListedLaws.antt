@@ -1,6 +1,6 @@
 -- What is listed: a key's record is as its list says, and stays so where one record changes, joins or leaves.
 use Rattle.std.proofs.Common.{◌≡◌, ℕ, ◌<◌, ◌&&◌, Bool, true, false, cond, List, map, get_or, eqb}
-use Rattle.std.proofs.Common.{Option, Some, None, IfSome, IsSome, refl, sym, ap, ◌∙◌}
+use Rattle.std.proofs.Common.{Option, Some, None, IfSome, IsSome, is_some, refl, sym, ap, ◌∙◌}
 use Rattle.rb_deliveries.specs.declared.span.Status.{Status}
 use Rattle.rb_deliveries.specs.declared.span.Status.TheVariants.{Ready, InFlight}
 use Rattle.rb_deliveries.specs.declared.ticket.Held.{Held}
@@ -77,3 +77,17 @@ still_listed test old new key x here listed more all new_all sets are_all are we
         ≡ (cond b here c && status_passes test (cond b x slot))
     by_key true c slot = refl
     by_key false c slot = refl
+
+-- all keys have a record, and no other, after one key's record changed, joined or left
+pub still_all : (old new : List (Option Held)) (key : ℕ) (x : Option Held) (all new_all : List ℕ) →
+    SetsSlot key x old new →
+    ((other : ℕ) → lists_key other new_all ≡ cond (eqb key other) (is_some x) (lists_key other all)) →
+    ((other : ℕ) → lists_key other all ≡ is_some (get_or old other None)) →
+    (other : ℕ) → lists_key other new_all ≡ is_some (get_or new other None)
+still_all old new key x all new_all sets are_all were other =
+    are_all other ∙ ap (cond (eqb key other) (is_some x)) (were other)
+    ∙ by_key (eqb key other) (get_or old other None) ∙ ap is_some (sym (sets other))
+  where
+    by_key : (b : Bool) (slot : Option Held) → cond b (is_some x) (is_some slot) ≡ is_some (cond b x slot)
+    by_key true slot = refl
+    by_key false slot = refl

@@ -10,7 +10,7 @@ use Rattle.rb_deliveries.specs.Taken.{AreListed, AreWoven, lists_key, held_under
 use Rattle.rb_deliveries.proofs.lists.KeyLaws.{SetsSlot, has_as, has_but, has_moved, keys_but, slot_set, slot_within}
 use Rattle.rb_deliveries.proofs.lists.RiseLaws.{SlotAhead, IsLess, rise_gone, rise_moved, tickets_rise, rise_tickets}
 use Rattle.rb_deliveries.proofs.lists.RiseLaws.{numbers_in_order, in_order_numbers}
-use Rattle.rb_deliveries.proofs.lists.ListedLaws.{still_listed}
+use Rattle.rb_deliveries.proofs.lists.ListedLaws.{still_all, still_listed}
 use Rattle.rb_deliveries.proofs.lists.StandLaws.{StandAs, standing, records_stand, held_stand, out_stand, step_unlinked}
 use Rattle.rb_deliveries.proofs.lists.StandLaws.{slot_changed, stands_nowhere, step_dropped, step_in_flight, step_in_line, step_slots}
 
@@ -39,6 +39,7 @@ module _ (old new : List (Option Held)) (key : ℕ) (x : Held) (ready out all : 
         (has_as key true all there)
         (λ other. has_but key other out ∙ ap (λ b. cond (eqb key other) b (lists_key other out)) (sym last.1))
         listed.out_keys;
+    all_keys = still_all old new key (Some x) all all sets (has_as key true all there) listed.all_keys;
     in_line = rise_tickets new (keys_but key ready ++ key ∷ [])
         (rise_moved SlotAhead old new key (Some x) sets ready (tickets_rise old ready listed.in_line) last.2);
     by_number = in_order_numbers new (keys_but key out)
@@ -55,6 +56,7 @@ module _ (old new : List (Option Held)) (key : ℕ) (x : Held) (ready out all : 
         (has_as key true all there)
         (λ other. has_moved key other out ∙ ap (λ b. cond (eqb key other) b (lists_key other out)) (sym last.1))
         listed.out_keys;
+    all_keys = still_all old new key (Some x) all all sets (has_as key true all there) listed.all_keys;
     in_line = rise_tickets new (keys_but key ready)
         (rise_gone SlotAhead old new key (Some x) sets ready (tickets_rise old ready listed.in_line));
     by_number = in_order_numbers new (keys_but key out ++ key ∷ [])
@@ -78,6 +80,7 @@ module _ (old new : List (Option Held)) (key : ℕ) (ready out all : List ℕ) (
         (λ other. has_but key other all) (λ other. has_but key other ready) listed.ready_keys;
     out_keys = still_listed is_out old new key None false out (keys_but key out) all (keys_but key all) sets
         (λ other. has_but key other all) (λ other. has_but key other out) listed.out_keys;
+    all_keys = still_all old new key None all (keys_but key all) sets (λ other. has_but key other all) listed.all_keys;
     in_line = rise_tickets new (keys_but key ready)
         (rise_gone SlotAhead old new key None sets ready (tickets_rise old ready listed.in_line));
     by_number = in_order_numbers new (keys_but key out)

@@ -14,7 +14,7 @@ use Rattle.rb_deliveries.specs.Taken.{number_of, slot_passes}
 use Rattle.rb_deliveries.proofs.lists.KeyLaws.{SetsSlot, has_as, has_pushed, key_same, map_keys, not_this_key}
 use Rattle.rb_deliveries.proofs.lists.RiseLaws.{SlotAhead, IsLess, rise_kept, rise_joined, tickets_rise, rise_tickets}
 use Rattle.rb_deliveries.proofs.lists.RiseLaws.{numbers_in_order, in_order_numbers}
-use Rattle.rb_deliveries.proofs.lists.ListedLaws.{out_less, still_listed}
+use Rattle.rb_deliveries.proofs.lists.ListedLaws.{out_less, still_all, still_listed}
 use Rattle.rb_deliveries.proofs.lists.StandLaws.{StandAs, standing, records_stand, held_stand, not_among, out_stand}
 use Rattle.rb_deliveries.proofs.lists.StandLaws.{slot_changed, step_in_flight, step_last, step_slots}
 
@@ -49,6 +49,8 @@ module _ (old new : List (Option Held)) (key : ℕ) (held : Held) (ready out all
         (λ other. has_pushed key other all)
         (λ other. has_pushed key other out ∙ ap (λ b. cond (eqb key other) b (lists_key other out)) (sym goes.flies))
         listed.out_keys;
+    all_keys = still_all old new key (Some held) all (all ++ key ∷ []) sets (λ other. has_pushed key other all)
+        listed.all_keys;
     in_line = rise_tickets new ready (rise_kept SlotAhead old new key (Some held) sets ready
         (not_this_key key ready not_ready) (tickets_rise old ready listed.in_line));
     by_number = in_order_numbers new (out ++ key ∷ []) (rise_joined IsLess old new key (Some held) sets out

@@ -149,6 +149,7 @@ none_kept old new spare are is =
     let listed : AreListed [] [] [] [] = record {
       ready_keys = λ key. refl;
       out_keys = λ key. refl;
+      all_keys = λ key. refl;
       in_line = tt;
       by_number = tt;
     } in ((records_stand stand listed, sym (ap length (out_stand stand))), held_stand stand)
