@@ -1,14 +1,16 @@
 #!/usr/bin/env python3
-"""Tries edits of crates/NAME/on-demand.edits many at a time, one in each source file, in one check of a copy of the crate.
+"""Tries edits of crates/NAME/on-demand.edits many at a time, one in each function, in one check of a copy of the crate.
 
     python3 checks/edits_together.py NAME..
 
 A function is proved by its own contract and those of what it calls, so an edit can only keep the function that it stands in
 from being proved. For each edit it prints `refused` and that function, or `STILL PROVED`, or that it can't be applied or
 checked. It takes a tenth of the time of checks/edits.sh, whose verdict, by the prover's own command, is the one that counts.
+The copy has what is built in this checkout, which the prover's command takes as long as it was built of the same sources.
 It needs the prover's command `rt`, or another one that the variable RT names. The status is 1 if an edit was not refused.
 """
 import collections
+import glob
 import os
 import re
 import shutil
@@ -35,16 +37,32 @@ def parts_of(edit):
     return name, pairs
 
 
-def applied(source, pairs):
-    """the source after the edit and the functions that it stands in, or None"""
-    functions = set()
+def placed(source, pairs):
+    """the spans of the source that an edit changes, with their new texts, and the functions that it stands in; or None"""
+    spans, functions = [], set()
     for old, new in pairs:
         if source.count(old) != 1:
             return None
-        named = re.findall(r'\bfn (\w+)', source[:source.index(old) + len(old)])
-        functions.update(named[-1:])
-        source = source.replace(old, new)
-    return source, functions
+        at = source.index(old)
+        spans.append((at, at + len(old), new))
+        functions.update(re.findall(r'\bfn (\w+)', source[:at + len(old)])[-1:])
+    return spans, functions
+
+
+def batches(edits):
+    """Lists of edits, each with its file, its spans and its functions. No two edits of a list stand in functions of one name."""
+    lists = []
+    for edit in edits:
+        for some, names in lists:
+            if edit[3] and not names & edit[3]:
+                break
+        else:
+            some, names = [], set()
+            lists.append((some, names))
+        some.append(edit)
+        # an edit that stands in no function is tried alone
+        names |= edit[3] or {name for other in edits for name in other[3]}
+    return [some for some, _ in lists]
 
 
 def unproved(crate):
@@ -59,35 +77,34 @@ def unproved(crate):
 
 
 def tried(crate, edits):
-    """tries edits of different files at once, and returns how many were refused"""
-    kept, stands = {}, {}
-    for edit, name, pairs in edits:
-        path = os.path.join(crate, name)
+    """tries these edits at once, and returns how many were refused"""
+    kept, spans = {}, collections.defaultdict(list)
+    for _, path, changes, _ in edits:
+        spans[path] += changes
+    for path, changes in spans.items():
         with open(path) as f:
-            source = f.read()
-        after = applied(source, pairs)
-        if after is None:
-            print(os.path.basename(crate), edit, "CAN'T BE APPLIED", flush=True)
-            continue
-        kept[path], stands[edit] = source, after[1]
+            source = kept[path] = f.read()
+        for begin, end, new in sorted(changes, reverse=True):
+            source = source[:begin] + new + source[end:]
         with open(path, 'w') as f:
-            f.write(after[0])
+            f.write(source)
     found = unproved(crate)
     for path, source in kept.items():
         with open(path, 'w') as f:
             f.write(source)
+    name = os.path.basename(crate)
     if found is None:
-        for edit in stands:
-            print(os.path.basename(crate), edit, "CAN'T BE CHECKED", flush=True)
+        for edit in edits:
+            print(name, edit[0], "CAN'T BE CHECKED", flush=True)
         return 0
     open_, faults = found
     if faults and len(edits) > 1:
         return sum(tried(crate, [edit]) for edit in edits)
     refused = 0
-    for edit, functions in stands.items():
+    for edit, _, _, functions in edits:
         found = sorted(functions & open_) or faults[:1]
         refused += bool(found)
-        print(os.path.basename(crate), edit, 'refused: ' + ', '.join(found) if found else 'STILL PROVED', flush=True)
+        print(name, edit, 'refused: ' + ', '.join(found) if found else 'STILL PROVED', flush=True)
     return refused
 
 
@@ -98,17 +115,23 @@ def main():
     work = tempfile.mkdtemp()
     count = refused = 0
     try:
-        subprocess.run(['git', 'clone', '-q', TOP, work + '/clone'], check=True)
+        clone = os.path.join(work, 'clone')
+        subprocess.run(['git', 'clone', '-q', TOP, clone], check=True)
+        for built in glob.glob(os.path.join(TOP, 'crates', '*', 'out')):
+            shutil.copytree(built, os.path.join(clone, 'crates', built.split(os.sep)[-2], 'out'), symlinks=True)
         for name in sys.argv[1:]:
-            found = edits_of(work + '/clone', name)
-            files = collections.defaultdict(list)
-            for edit, text in found.items():
+            crate, edits = os.path.join(clone, 'crates', name), []
+            for edit, text in edits_of(clone, name).items():
                 file, pairs = parts_of(text)
-                files[file].append((edit, file, pairs))
-            count += len(found)
-            crate = os.path.join(work, 'clone', 'crates', name)
-            while any(files.values()):
-                refused += tried(crate, [edits.pop(0) for edits in files.values() if edits])
+                path = os.path.join(crate, file)
+                with open(path) as f:
+                    found = placed(f.read(), pairs)
+                count += 1
+                if found is None:
+                    print(name, edit, "CAN'T BE APPLIED", flush=True)
+                else:
+                    edits.append((edit, path, *found))
+            refused += sum(tried(crate, some) for some in batches(edits))
     finally:
         shutil.rmtree(work)
     if refused < count:
