@@ -14,6 +14,7 @@ from broker import Broker, Refused
 
 HEAD, KEY = b'T\2\1\0t\0', b'\1' + bytes(7) + b'\1'
 INSERT, DELETE = HEAD + b'\x12\0' + KEY + b'\3\1x', HEAD + b'\x09\0' + KEY + b'\3\1x'
+header = (top / 'include/broker.h').read_text()
 called = set()
 
 
@@ -76,22 +77,42 @@ expect('take', 0, 5, gives=(4, 0, 2, 2))
 expect('expire', 15, gives=1)
 expect('take', 0, 15, gives=(5, 0, 2, 2))
 refuses(-38, (1, 0), 'ack', 5)
+expect('status', 0, gives=(0, 1, 1, 2, 1, 0, 1, 2, False, False))
 expect('crash', 5, True, gives=2)
+found = call('status', 0)
+assert found.fallen is True and found.closed is False and found.front - found.floor == 1, found
 refuses(-45, (0, 0), 'accept', 5)
 expect('resume', 0, gives=2)
 expect('reconnect', 0, 2, gives=3)
 expect('unsubscribe', 0)
+expect('status', 0, gives=(0, 2, 2, 2, 3, 0, 0, 2, True, False))
 refuses(-40, (2, 0), 'subscribe_bare', 3)
+refuses(-30, (0, 0), 'status', 1)
+refuses(-16, (0, 0), 'entry', 3)
 expect('subscribe_bare', 1, gives=(1, 4))
 expect('take', 1, 15, gives=(6, 1, 2, 2))
 expect('accept', 6, gives=2)
 expect('rows', 1, gives=b'')
-expect('close', gives=2)
+expect('place', 0, INSERT, gives=3)
+expect('text', 3, gives=INSERT)
+refuses(-3, (1, 16), 'place', 0, INSERT[:1])
+refuses(-20, (0, 0), 'place', 0, b'T\1\1x\0')
+expect('end', 0)
+refuses(-12, (0, 0), 'place', 0, INSERT)
+expect('send', 0, gives=4)
+refuses(-23, (1, 0), 'place', 0, INSERT)
+expect('turn', gives=4)
+expect('close', gives=4)
+refuses(-14, (0, 0), 'place', 0, INSERT)
 refuses(-14, (0, 0), 'take', 0, 15)
 refuses(-33, (0, 0), 'ack', 7)
+assert broker.version() == int(re.search(r'BROKER_VERSION_NUMBER (\d+)', header).group(1))
+called.add('version')
 expect('shut')
+refuses(-1, (0, 0), 'place', 0, INSERT)
+refuses(-1, (0, 0), 'status', 0)
 refuses(-1, (0, 0), 'front')
 
-listed = set(re.findall(r'broker_(\w+)\(', re.sub(r'/\*.*?\*/', '', (top / 'include/broker.h').read_text(), flags=re.S)))
+listed = set(re.findall(r'broker_(\w+)\(', re.sub(r'/\*.*?\*/', '', header, flags=re.S)))
 missing = listed - called - {'open', 'free', 'why', 'message'}
 assert not missing, f'no call of {missing}'

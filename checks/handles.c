@@ -9,7 +9,7 @@
 #include <stdio.h>
 #include <string.h>
 
-enum { MOST_NOTES = 1200 };
+enum { MOST_NOTES = 1500 };
 
 /* both headers number a kind of fault alike: else an array would have no length */
 #define ALIKE(kind) ((int)BROKER_FAULT_##kind == (int)CHANGESET_##kind ? 1 : -1)
@@ -59,6 +59,19 @@ static void why(broker *b) {
     note((int64_t)numbers.second);
 }
 
+/* counts what isn't as it must be */
+static void expect(int64_t value, int64_t wanted, const char *what) {
+    if (value != wanted) bad++, printf("%s: %" PRId64 ", and not %" PRId64 "\n", what, value, wanted);
+}
+
+/* notes how far a subscription has come */
+static void status(broker *b, uint64_t subscription) {
+    struct broker_status it = {7, 7, 7, 7, 7, 7, 7, 7, true, true};
+    CALL(broker_status(b, subscription, &it));
+    uint64_t numbers[] = {it.start, it.floor, it.cursor, it.offered, it.link, it.ready, it.in_flight, it.front};
+    for (int i = 0; i < 8; i++) note((int64_t)numbers[i]);
+    note(it.closed * 2 + it.fallen);
+}
 
 /* feeds a text, ends it and sends it */
 static void send(broker *b, uint64_t publisher, const unsigned char *text, size_t len) {
@@ -119,6 +132,83 @@ static void publishes(broker *b) {
     turn(b);
 }
 
+/* A text that is begun, and a byte that can't follow. Their fault's place is how much of the text the stream has. */
+static const unsigned char begun[] = {HEADER, 0x12, 0}, bad_type[] = {9};
+
+/* the stream has this many bytes, and gets a fault */
+static void has(broker *b, uint64_t publisher, size_t len) {
+    struct broker_numbers numbers = {7, 7};
+    int code = broker_feed(b, publisher, bad_type, 1);
+    if (code == BROKER_NO_MEMORY) starved++, code = broker_feed(b, publisher, bad_type, 1);
+    expect(code, BROKER_FAULT, "a byte that can't follow");
+    expect(broker_why(b, &numbers), BROKER_OK, "the numbers of a fault");
+    expect((int64_t)numbers.first, (int64_t)len, "the stream's length");
+}
+
+/* Places a text behind one that is begun. `first` and `second` are the entry and 0, or the numbers of a refusal. */
+static void place(broker *b, uint64_t publisher, const unsigned char *text, size_t len, int wanted, uint64_t first,
+                  uint64_t second) {
+    uint64_t entry = 7, front = 7, left = 7, after = 7;
+    struct broker_numbers numbers = {7, 7};
+    CALL(broker_reset(b, publisher));
+    CALL(broker_feed(b, publisher, begun, sizeof begun));
+    CALL(broker_front(b, &front));
+    CALL(broker_left(b, &left));
+    int code = broker_place(b, publisher, text, len, &entry);
+    if (code == BROKER_NO_MEMORY) {
+        starved++;
+        expect((int64_t)entry, 7, "the entry of a place without memory");
+        has(b, publisher, sizeof begun);
+        code = broker_place(b, publisher, text, len, &entry);
+    }
+    note(code);
+    expect(code, wanted, "a place");
+    expect((int64_t)entry, code == BROKER_OK ? (int64_t)first : 7, "the entry of a place");
+    if (code == BROKER_OK) {
+        expect((int64_t)first, (int64_t)++front, "the number of a place");
+    } else {
+        CALL(broker_why(b, &numbers));
+        expect((int64_t)numbers.first, (int64_t)first, "the first number of a place");
+        expect((int64_t)numbers.second, (int64_t)second, "the second number of a place");
+    }
+    /* whether it is refused or not, the stream is reset, and no more waits than before */
+    has(b, publisher, 0);
+    CALL(broker_reset(b, publisher));
+    CALL(broker_left(b, &after));
+    expect((int64_t)after, (int64_t)left, "what waits after a place");
+    CALL(broker_front(b, &after));
+    expect((int64_t)after, (int64_t)front, "the front after a place");
+}
+
+static void places(broker *b) {
+    uint64_t own = 7, next = 7, front = 7;
+    CALL(broker_front(b, &front));
+    place(b, 0, inserted, sizeof inserted, BROKER_OK, front + 1, 0);
+    place(b, 0, faulty, 1, BROKER_FAULT, 1, BROKER_FAULT_TRUNCATED);
+    place(b, 0, bad_type, 1, BROKER_FAULT, 0, BROKER_FAULT_BAD_MARKER);
+    place(b, 0, unknown, sizeof unknown, BROKER_UNKNOWN_TABLE, 0, 0);
+    place(b, 0, narrow, sizeof narrow, BROKER_SHAPE_DIFFERS, 0, 0);
+    /* nothing is staged by a refused one; a text without changes is */
+    CALL(broker_send(b, 0, &own));
+    expect((int64_t)own, 7, "what was sent");
+    CALL(broker_end(b, 0));
+    place(b, 0, inserted, sizeof inserted, BROKER_HOLDING, 0, 0);
+    place(b, 0, bad_type, 1, BROKER_FAULT, 0, BROKER_FAULT_BAD_MARKER);
+    CALL(broker_send(b, 0, &own));
+    note((int64_t)own);
+    place(b, 0, inserted, sizeof inserted, BROKER_WAITING, 1, 0);
+    place(b, 1, bad_type, 1, BROKER_WAITING, 1, 0);
+    turn(b);
+    place(b, 0, updated, sizeof updated, BROKER_OK, front + 3, 0);
+    /* an end behind a refused one finds no bytes; its changeset is sent under the next number */
+    place(b, 0, faulty, 1, BROKER_FAULT, 1, BROKER_FAULT_TRUNCATED);
+    CALL(broker_end(b, 0));
+    CALL(broker_send(b, 0, &next));
+    expect((int64_t)next, (int64_t)own + 2, "the number of a sending");
+    turn(b);
+    CALL(broker_place(b, 2, inserted, sizeof inserted, &own));
+}
+
 static void subscribes(broker *b) {
     struct broker_delivery delivery = {7, 7, 7, 7};
     uint64_t subscription = 7, link = 7, second = 7, bare = 7, count = 7;
@@ -126,7 +216,11 @@ static void subscribes(broker *b) {
     CALL(broker_subscribe(b, 0, &subscription, &link));
     CALL(broker_subscribe(b, 1, &second, &link));
     note((int64_t)second);
+    status(b, subscription);
+    status(b, second);
+    status(b, 9);
     take(b, subscription, &delivery);
+    status(b, subscription);
     CALL(broker_nack_opened(b, delivery.number, &count));
     note((int64_t)count);
     take(b, subscription, &delivery);
@@ -136,6 +230,7 @@ static void subscribes(broker *b) {
     accept(b, delivery.number);
     take(b, subscription, &delivery);
     CALL(broker_crash(b, delivery.number, true, &count));
+    status(b, subscription);
     accept(b, delivery.number);
     CALL(broker_resume(b, subscription, &link));
     CALL(broker_resume(b, subscription, &link));
@@ -152,16 +247,19 @@ static void subscribes(broker *b) {
     note((int64_t)delivery.number);
     CALL(broker_unsubscribe(b, second));
     CALL(broker_unsubscribe(b, second));
+    status(b, second);
     /* nor has one that keeps no rows, and it accepts the delivery */
     CALL(broker_subscribe_bare(b, 9, &bare, &link));
     CALL(broker_subscribe_bare(b, 1, &bare, &link));
     note((int64_t)bare);
     note((int64_t)link);
+    status(b, bare);
     take(b, bare, &delivery);
     count = 7;
     CALL(broker_accept(b, delivery.number, &count));
     if (count != delivery.last) bad++, printf("a subscription without rows stands at %" PRIu64 "\n", count);
     accept(b, delivery.number);
+    status(b, bare);
 }
 
 static void reads(broker *b) {
@@ -211,6 +309,11 @@ static void says(void) {
         note(memchr(words, 0, sizeof words) == words + len - 1 && words[len] == 'x');
         note(broker_message(code, words, (size_t)len - 1));
     }
+    note(broker_message(BROKER_BUSY, words, sizeof words));
+    expect(strcmp(words, "another call is in the handle"), 0, "the words of BROKER_BUSY");
+    note(broker_message(BROKER_WAITING, words, sizeof words));
+    expect(strcmp(words, "other changesets wait to be placed"), 0, "the words of BROKER_WAITING");
+    expect(broker_version(), BROKER_VERSION_NUMBER, "the version");
 }
 
 static void run(void) {
@@ -232,15 +335,22 @@ static void run(void) {
     reads(b);
     rows(b);
     says();
+    places(b);
     CALL(broker_close(b, &last));
     CALL(broker_close(b, &last));
     note((int64_t)last);
     turn(b);
+    place(b, 0, inserted, sizeof inserted, BROKER_CLOSED, 0, 0);
+    place(b, 1, faulty, 1, BROKER_FAULT, 1, BROKER_FAULT_TRUNCATED);
+    status(b, 0);
     broker_shut(b);
     turn(b);
     why(b);
     rows(b);
+    status(b, 0);
+    CALL(broker_place(b, 0, inserted, sizeof inserted, &last));
     broker_free(b);
+    broker_free(NULL);
 }
 
 /* a run where the allocation of this number is refused (0: none), and how many it asked for */

@@ -1,5 +1,5 @@
-/* Feeds changesets of the most bytes that one may have, more than a script may have, until the sequence is full. Each
- * must come back as it was fed, and a byte more must be a fault. Prints the numbers. */
+/* Feeds or places changesets of the most bytes that one may have, more than a script may have, until the sequence is
+ * full. Each must come back as it was fed, and a byte more must be a fault. Prints the numbers. */
 #include "broker.h"
 
 #include <stdio.h>
@@ -22,6 +22,8 @@ static void fill(unsigned char *text, unsigned char key) {
     text[16] = key;
     for (int i = 0; i < 4; i++) text[18 + i] = (unsigned char)((BLOB >> (7 * (3 - i)) & 127) | (i < 3 ? 128 : 0));
     memset(text + 22, key, BLOB);
+    /* what may not follow */
+    text[MOST] = 'T';
 }
 
 static int serves(broker *b, unsigned char *text, unsigned char *out) {
@@ -32,6 +34,14 @@ static int serves(broker *b, unsigned char *text, unsigned char *out) {
     EXPECT(BROKER_OK, broker_subscribe(b, 0, &subscription, &link));
     for (unsigned char key = 1; key <= ENTRIES + 1; key++) {
         fill(text, key);
+        if (key == ENTRIES) {
+            EXPECT(BROKER_OK, broker_place(b, publisher, text, MOST, &entry));
+            EXPECT(MOST, broker_text(b, entry, out, MOST));
+            EXPECT(0, memcmp(text, out, MOST));
+            EXPECT(BROKER_SEQUENCE_FULL, broker_place(b, publisher, text, MOST, &entry));
+            EXPECT(BROKER_FAULT, broker_place(b, publisher, text, MOST + 1, &entry));
+            continue;
+        }
         EXPECT(BROKER_OK, broker_feed(b, publisher, text, MOST));
         EXPECT(BROKER_OK, broker_end(b, publisher));
         EXPECT(BROKER_OK, broker_send(b, publisher, &own));
@@ -59,7 +69,7 @@ int main(void) {
     static const struct broker_table table = {(const unsigned char *)"t", 1, key, 2};
     struct broker_limits limits = BROKER_LIMITS;
     struct broker_numbers why;
-    unsigned char *text = malloc(MOST), *out = malloc(MOST);
+    unsigned char *text = malloc(MOST + 1), *out = malloc(MOST);
     broker *b = NULL;
     limits.capacity = ENTRIES;
     if (!text || !out || broker_open(&b, &limits, &table, 1, &why)) return 2;

@@ -6,6 +6,8 @@
 # - Each script case of the crate rb_cases, answered by calls (cases.c), has the answers of its file: with the
 #   changesets as they stand, byte by byte and in pieces of 7 bytes. Some run again over AddressSanitizer, and some in
 #   valgrind.
+# - The calls that no line of a script makes place what others place, and tell how far a subscription has come
+#   (unscripted.c), also over AddressSanitizer and in valgrind.
 # - Every call with each allocation refused in turn changes nothing, and no memory stays in use (handles.c): by a malloc
 #   of its own, over AddressSanitizer and in valgrind.
 # - Two threads use two handles at once, and one handle under a lock (threads.c), also in helgrind.
@@ -86,6 +88,13 @@ says 'the same over AddressSanitizer, compiled' builds handles-a $sanitize $wrap
 says 'the same over AddressSanitizer' "$work/handles-a"
 says 'the same for valgrind, compiled' builds handles-v $wrap checks/handles.c checks/wrapped.c
 says 'the same in valgrind' valgrinds "$work/handles-v"
+
+# Calls that no line makes.
+says 'calls without a line, compiled' builds unscripted checks/unscripted.c
+says 'calls without a line' "$work/unscripted"
+says 'the same over AddressSanitizer, compiled' builds unscripted-a $sanitize checks/unscripted.c
+says 'the same over AddressSanitizer' "$work/unscripted-a"
+says 'the same in valgrind' valgrinds "$work/unscripted"
 
 # Threads.
 says 'threads, compiled' builds threads checks/threads.c -pthread

@@ -1,7 +1,8 @@
 #!/bin/sh
 # Checks packaging/install.sh: it installs both libraries into a clean folder, and there a C program is built by
 # pkg-config alone, with one library and with both, and runs. The shared object loads, and shows the calls of the
-# headers alone. It prints a line for each check, and ends with status 1 where one fails.
+# headers alone. The version is everywhere the one of the file VERSION. It prints a line for each check, and ends with
+# status 1 where one fails.
 #   sh checks/packaging.sh        needs gcc, nm, pkg-config, python3 and what `rt lib` leaves in crates/broker_c and
 #                                 crates/changeset_c. Debian's packages: gcc binutils pkg-config python3
 # RT names the prover's command where it isn't `rt`.
@@ -118,6 +119,21 @@ whole() {
         -lchangeset_c -Wl,--no-whole-archive -lgubzelk_heap -o whole) && prints 'operation 9' "$work/whole"
 }
 says 'all of both archives in one program' whole
+
+# one version
+version=$(cat VERSION)
+cat >"$work/version.c" <<'END'
+#include <broker.h>
+#include <stdio.h>
+int main(void) { return printf("%s %d %d\n", BROKER_VERSION, BROKER_VERSION_NUMBER, broker_version()) < 0; }
+END
+says 'the version of rb_run' \
+    test "$(sed -n 's/^const VERSION: &str = "\(.*\)";$/\1/p' crates/rb_run/src/command.rt)" = "$version"
+says 'the version of the packages' \
+    test "$(pkg-config --modversion gubzelk-broker gubzelk-changeset | uniq)" = "$version"
+says 'a program that prints the version, built' builds version gubzelk-broker
+says 'the version of the header and of the library' prints \
+    "$(echo "$version" | awk -F . '{ n = $1 * 1000000 + $2 * 1000 + $3; print $0, n, n }')" "$work/version"
 
 # the calls of both headers, and those that the shared object shows
 shows() {

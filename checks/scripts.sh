@@ -4,7 +4,8 @@
 # on standard error. One line for each trial.
 #   sh checks/scripts.sh        needs gcc, g++, valgrind, python3, git, sqlite3 and its library; no prover and no built program
 . "$(dirname "$0")/begin.sh"
-git clone -q . "$work/top" && cp -R checks refused bench examples include packaging "$work/top" && cd "$work/top" || exit 2
+git clone -q . "$work/top" && cp -R checks refused bench examples include packaging VERSION "$work/top" || exit 2
+cd "$work/top" || exit 2
 program=crates/rb_run/out/rb_run
 export PROGRAM="$program" RT="$work/rt"
 
@@ -96,6 +97,7 @@ fails 'gate-times.sh, nothing is run' 'no process' env PATH="$work/bin:$PATH" sh
 fails 'gate-times.sh, a command that fails' 'ended with status 3' sh checks/gate-times.sh sh -c 'exit 3'
 fails 'bench/run.sh, nothing is made' 'no crates' sh bench/run.sh
 fails 'bench/library/run.sh, nothing is made' 'no crates' sh bench/library/run.sh
+fails 'bench/library/memory.sh, nothing is made' 'no crates' sh bench/library/memory.sh
 fails 'bench/script.sh, nothing is made' 'script.sh: ' sh bench/script.sh
 fails 'bench/apply/run.sh, nothing is made' 'no program' sh bench/apply/run.sh
 fails 'bench/pieces/run.sh, nothing is made' 'no program' sh bench/pieces/run.sh
@@ -189,7 +191,7 @@ END
 gcc -c "$work/none.c" -o "$work/none.o" && ar cr crates/changeset_c/out/libchangeset_c.a "$work/none.o" || exit 2
 # the broker's functions, of which each answers 7
 mkdir -p crates/broker_c/out
-sed -n 's/^BROKER_\(CALL\|VOID\) .*\(broker_[a-z_]*\)(.*/long \2(void) { return 7; }/p' include/broker.h >"$work/seven.c"
+sed -n 's/^[A-Z_]* *[a-z0-9_]* \(broker_[a-z_]*\)(.*/long \1(void) { return 7; }/p' include/broker.h >"$work/seven.c"
 gcc -c "$work/seven.c" -o "$work/seven.o" && ar cr crates/broker_c/out/libbroker_c.a "$work/seven.o" || exit 2
 make crates/rb_threads/out/rb_threads_tests "$exits"
 fails 'header.sh, no toolchain' 'no .*liblibc_c' sh checks/header.sh

@@ -1,5 +1,6 @@
 /* Two handles in two threads at once, and one handle under a lock by two threads. Each thread publishes and follows,
- * and must find what it published. Prints the numbers.
+ * and must find what it published. None may meet BROKER_BUSY. When the handle is shut, each call of both must return
+ * BROKER_SHUT. Prints the numbers.
  *     ./threads [ROUNDS]        20000 rounds unless it says another number */
 #include "broker.h"
 
@@ -25,26 +26,35 @@ static void insert_of(uint64_t key, unsigned char text[26]) {
     for (int i = 0; i < 8; i++) text[9 + i] = (unsigned char)(key >> (56 - 8 * i));
 }
 
-/* publishes one changeset, whose key says the publisher and the round; and reads it again */
+/* Publishes one changeset, whose key says the publisher and the round, and reads it again. Each second one goes by one
+ * call. */
 static void publish(struct work *w, uint64_t round) {
     unsigned char text[26], placed[26];
     uint64_t own, entry = 0;
+    struct broker_about about = {0, 0, 0};
     insert_of(w->publisher << 32 | round, text);
-    w->bad |= broker_feed(w->b, w->publisher, text, 13) | broker_feed(w->b, w->publisher, text + 13, 13);
-    w->bad |= broker_end(w->b, w->publisher) | broker_send(w->b, w->publisher, &own) | broker_turn(w->b, &entry);
-    w->bad |= own != round || broker_text(w->b, entry, placed, sizeof placed) != 26 || memcmp(text, placed, 26);
+    if (round % 2) {
+        w->bad |= broker_feed(w->b, w->publisher, text, 13) | broker_feed(w->b, w->publisher, text + 13, 13);
+        w->bad |= broker_end(w->b, w->publisher) | broker_send(w->b, w->publisher, &own) | broker_turn(w->b, &entry);
+    } else {
+        w->bad |= broker_place(w->b, w->publisher, text, sizeof text, &entry);
+    }
+    w->bad |= broker_entry(w->b, entry, &about) || about.publisher != w->publisher || about.own != round;
+    w->bad |= broker_text(w->b, entry, placed, sizeof placed) != 26 || memcmp(text, placed, 26);
     w->placed++;
 }
 
 /* takes and settles one delivery, if there is one */
 static void follow(struct work *w) {
     struct broker_delivery d;
+    struct broker_status s;
     uint64_t cursor = 0, floor = 0;
     int code = broker_take(w->b, w->subscription, 0, &d);
     w->bad |= code != BROKER_OK && code != BROKER_EMPTY;
     if (code != BROKER_OK) return;
     w->bad |= broker_accept(w->b, d.number, &cursor) | broker_ack(w->b, d.number, &floor);
     w->bad |= cursor != d.last || floor != d.last;
+    w->bad |= broker_status(w->b, w->subscription, &s) || s.cursor != cursor || s.floor != floor || s.in_flight;
     w->applied = floor;
 }
 
@@ -63,6 +73,34 @@ static void *runs(void *given) {
         if (round % 10 == 0) hold(w), follow(w), release(w);
     }
     return NULL;
+}
+
+/* the handle is shut, and says nothing else */
+static void *meets_shut(void *given) {
+    struct work *w = given;
+    struct broker_numbers why;
+    struct broker_status s;
+    unsigned char text[26];
+    uint64_t n;
+    insert_of(1, text);
+    for (uint64_t round = 1; round <= rounds; round++) {
+        hold(w);
+        w->bad |= broker_turn(w->b, &n) != BROKER_SHUT || broker_why(w->b, &why) != BROKER_SHUT;
+        w->bad |= broker_place(w->b, w->publisher, text, sizeof text, &n) != BROKER_SHUT;
+        w->bad |= broker_status(w->b, w->subscription, &s) != BROKER_SHUT;
+        w->bad |= broker_text(w->b, 1, text, sizeof text) != BROKER_SHUT;
+        release(w);
+    }
+    return NULL;
+}
+
+/* a thread for each of two, until both have ended */
+static void in_threads(void *(*start)(void *), struct work *two) {
+    pthread_t threads[2];
+    for (int i = 0; i < 2; i++)
+        if (pthread_create(&threads[i], NULL, start, &two[i])) abort();
+    for (int i = 0; i < 2; i++)
+        if (pthread_join(threads[i], NULL)) abort();
 }
 
 static broker *opened(void) {
@@ -86,17 +124,14 @@ static struct work begun(broker *b, pthread_mutex_t *lock) {
 
 /* runs both at once, and follows to the end in this thread */
 static int run_two(const char *name, struct work *two) {
-    pthread_t threads[2];
     int bad = 0;
-    for (int i = 0; i < 2; i++)
-        if (pthread_create(&threads[i], NULL, runs, &two[i])) abort();
-    for (int i = 0; i < 2; i++)
-        if (pthread_join(threads[i], NULL)) abort();
+    in_threads(runs, two);
     for (int i = 0; i < 2; i++) {
         uint64_t front = 0;
         bad |= broker_front(two[i].b, &front);
         for (int turn = 0; turn < 10000000 && two[i].applied < front && !two[i].bad; turn++) follow(&two[i]);
-        bad |= two[i].bad || two[i].applied < front || two[i].placed != rounds || front != (two[i].lock ? 2 * rounds : rounds);
+        bad |= two[i].bad || two[i].applied < front || two[i].placed != rounds;
+        bad |= front != (two[i].lock ? 2 * rounds : rounds);
     }
     printf("%s: %" PRIu64 " changesets by each thread, settled up to %" PRIu64 " and %" PRIu64 ", bad %d\n", name,
            rounds, two[0].applied, two[1].applied, bad);
@@ -110,6 +145,10 @@ int main(int count, char **words) {
     struct work apart[] = {begun(each[0], NULL), begun(each[1], NULL)};
     struct work shared[] = {begun(both, &lock), begun(both, &lock)};
     int bad = run_two("two handles in two threads", apart) | run_two("a handle by two threads under a lock", shared);
+    broker_shut(both);
+    in_threads(meets_shut, shared);
+    bad |= shared[0].bad | shared[1].bad;
+    printf("a handle that is shut, by two threads under a lock: bad %d\n", shared[0].bad | shared[1].bad);
     broker_free(each[0]), broker_free(each[1]), broker_free(both);
     return rounds == 0 || bad;
 }

@@ -5,26 +5,27 @@
  * lets go of everything behind a handle, which stays: its other calls return BROKER_SHUT from then on.
  *
  * Results: an int is BROKER_OK, BROKER_IDLE or a negative code. An int64_t is a length, or a negative code. A call with
- * a negative code sets no output, and changes nothing, but for three cases. broker_open sets `*why` for a bad limit or
+ * a negative code sets no output, and changes nothing, but for four cases. broker_open sets `*why` for a bad limit or
  * table. A stream keeps its fault until broker_reset. A refused broker_turn may have taken a changeset out of the intake,
- * which the next one tries first. broker_why tells the two numbers of the last code of -3 or less. Calls that only read
- * leave them as they are.
+ * which the next one tries first. A refused broker_place has reset the publisher's stream. broker_why tells the two
+ * numbers of the last code of -3 or less; BROKER_BUSY and calls that only read leave them as they are.
  *
- * "Refused" below lists the codes that a call may return beside BROKER_OK, BROKER_SHUT and BROKER_NO_MEMORY, without
- * their BROKER_. If several apply, the call returns the first of its list.
+ * "Refused" below lists the codes that a call may return beside BROKER_OK, BROKER_SHUT, BROKER_BUSY and
+ * BROKER_NO_MEMORY, without their BROKER_. If several apply, the call returns the first of its list.
  *
  * Ownership: the caller owns every buffer before, during and after a call. The library keeps no pointer into one, and
  * gives out none but handles: texts are copied into the caller's buffers. It allocates with malloc and realloc.
  *
  * Threads: a handle is given to one call at a time, and two handles may be given to two calls at once. A handle may go
- * to another thread, if a lock, a thread's start or a join comes between the calls. No call waits, reads or writes a
- * file, or starts a thread.
+ * to another thread, if a lock, a thread's start or a join comes between the calls. A call that finds another call in its
+ * handle returns BROKER_BUSY. That is help for a program with a bug, and no lock: such calls may also miss each other, and
+ * the program may crash. No call waits, reads or writes a file, or starts a thread.
  *
  * Any number and any bytes may be passed. The caller must ensure all of this, and no call checks it:
  * - A handle is one that broker_open gave out and broker_free hasn't freed. Nobody else reads or writes what it leads
  *   to.
  * - No pointer is NULL, even if its length is 0; any other address serves then. Neither of a table's two pointers is NULL.
- *   Lengths, rooms, and the sizes of arrays in bytes are below 2^63.
+ *   Only broker_free takes NULL. Lengths, rooms, and the sizes of arrays in bytes are below 2^63.
  * - An input has `len` bytes, or `count` tables, that nobody changes during the call. Inputs may overlap.
  * - An output is aligned, and nobody else reads or changes it during the call. It overlaps no input, no other output
  *   and nothing that a handle leads to. `out` has `room` bytes.
@@ -35,6 +36,10 @@
 #include <stdbool.h>
 #include <stddef.h>
 #include <stdint.h>
+
+/* The version of this header, which the file VERSION has too. broker_version tells that of the library. */
+#define BROKER_VERSION "0.1.0"
+#define BROKER_VERSION_NUMBER 1000
 
 /* A compiler that knows these attributes warns of a result that isn't used, and of NULL. */
 #if defined(__GNUC__) || defined(__clang__)
@@ -69,6 +74,8 @@ enum broker_code {
     /* broker_open: a table is refused. Numbers: its place, from 0; and 0 if no table has such a shape or if it is one
      * too many, or 1 if an earlier table has its name. */
     BROKER_BAD_TABLE = -5,
+    /* Another call is in the handle. Nothing changed. */
+    BROKER_BUSY = -6,
 
     /* No publisher has this number. */
     BROKER_NO_PUBLISHER = -10,
@@ -97,6 +104,8 @@ enum broker_code {
     /* 268,435,455 steps are made. A placement takes one, and so do subscribe, subscribe_bare, take, take_any, ack, nack,
      * nack_opened, expire, reconnect, resume, unsubscribe and the first close. */
     BROKER_JOURNAL_FULL = -22,
+    /* broker_place: other changesets wait to be placed, and broker_turn places them. Numbers: how many. */
+    BROKER_WAITING = -23,
 
     /* No subscription has this number. */
     BROKER_NO_SUBSCRIPTION = -30,
@@ -175,6 +184,10 @@ enum broker_conflict_kind {
  * only if they are at most `room`; else `out` does not change. It takes no handle, and never fails. */
 BROKER_VOID int64_t broker_message(int code, char *out, size_t room);
 
+/* The version of the library as one number: 1,000,000 for the major one, 1,000 for the minor one, and the patch. A program
+ * may compare it with BROKER_VERSION_NUMBER. */
+int broker_version(void);
+
 /* The numbers that go with a code. */
 struct broker_numbers {
     uint64_t first, second;
@@ -219,11 +232,12 @@ struct broker_table {
 BROKER_CALL int broker_open(broker **out, const struct broker_limits *limits, const struct broker_table *tables,
                             size_t count, struct broker_numbers *why);
 
-/* Lets go of everything behind a handle. Its other calls return BROKER_SHUT from then on. broker_free is still owed. */
+/* Lets go of everything behind a handle. Its other calls return BROKER_SHUT from then on. broker_free is still owed. If
+ * another call is in the handle, it does nothing. */
 BROKER_VOID void broker_shut(broker *b);
 
-/* Frees a handle, with everything behind it. */
-BROKER_VOID void broker_free(broker *b);
+/* Frees a handle, with everything behind it. For NULL it does nothing. */
+void broker_free(broker *b);
 
 /* Sets `*why` to the numbers of the handle's last code of -3 or less, at first two zeros. */
 BROKER_CALL int broker_why(const broker *b, struct broker_numbers *why);
@@ -258,6 +272,13 @@ BROKER_CALL int broker_withdraw(broker *b, uint64_t publisher, uint64_t entry);
 /* Places the changeset that was sent first, and sets `*entry` to its number; or returns BROKER_IDLE. Refused:
  * JOURNAL_FULL, CLOSED, SEQUENCE_FULL. */
 BROKER_CALL int broker_turn(broker *b, uint64_t *entry);
+
+/* Places a whole changeset of `len` bytes, and sets `*entry` to its number: broker_reset, broker_feed, broker_end,
+ * broker_send and broker_turn in one call. It does all of this, or only the reset where it is refused: then nothing is
+ * staged, sent or placed. After BROKER_NO_MEMORY the stream too is as before. Refused: NO_PUBLISHER, WAITING, FAULT (one
+ * that broker_feed finds), HOLDING, FAULT (one that broker_end finds), UNKNOWN_TABLE, SHAPE_DIFFERS, CLOSED,
+ * JOURNAL_FULL, SEQUENCE_FULL. */
+BROKER_CALL int broker_place(broker *b, uint64_t publisher, const unsigned char *bytes, size_t len, uint64_t *entry);
 
 /* Closes the sequence: nothing more is sent or placed. Sets `*last` to its last number. A second call does the same.
  * What is placed can still be taken, accepted and acknowledged. */
@@ -326,6 +347,31 @@ BROKER_CALL int broker_crash(broker *b, uint64_t delivery, bool kept, uint64_t *
 /* Sets `*cursor` to the last number that a subscription has accepted, or returns BROKER_NO_SUBSCRIPTION. */
 BROKER_CALL int broker_cursor(broker *b, uint64_t subscription, uint64_t *cursor);
 
+/* How far a subscription has come. */
+struct broker_status {
+    /* The number after which it began. */
+    uint64_t start;
+    /* The number up to which it has settled all. */
+    uint64_t floor;
+    /* The last number that it has accepted; `start` before the first. */
+    uint64_t cursor;
+    /* The greatest number that was delivered to it; `start` before the first. */
+    uint64_t offered;
+    /* Its link. */
+    uint64_t link;
+    /* How many deliveries are ready for it: broker_take hands out the first of them. */
+    uint64_t ready;
+    /* How many deliveries are in flight to it. */
+    uint64_t in_flight;
+    /* The last number placed. `front - floor` is its lag. */
+    uint64_t front;
+    /* Whether it is closed, and whether it has fallen. What is ready and in flight is 0 once it is closed. */
+    bool closed, fallen;
+};
+
+/* Sets `*status` to how far a subscription has come, or returns BROKER_NO_SUBSCRIPTION. */
+BROKER_CALL int broker_status(broker *b, uint64_t subscription, struct broker_status *status);
+
 /* Settles a delivery. Sets `*floor` to the number up to which the subscription has settled all. Refused: NO_DELIVERY,
  * JOURNAL_FULL, STALE_LINK, NOT_IN_FLIGHT, NOT_ACCEPTED. */
 BROKER_CALL int broker_ack(broker *b, uint64_t delivery, uint64_t *floor);
@@ -342,7 +388,8 @@ BROKER_CALL int broker_nack_opened(broker *b, uint64_t delivery, uint64_t *count
 BROKER_CALL int broker_expire(broker *b, uint64_t now, uint64_t *count);
 
 /* Lets a subscription go on after number `cursor`, under a new link, to which it sets `*link`. Its deliveries from
- * before are stale. Refused: NO_SUBSCRIPTION, JOURNAL_FULL, CLOSED, BAD_CURSOR. */
+ * before are stale. After a number above the subscription's own cursor, broker_accept returns BROKER_GAP for good: the
+ * entries between never come again. Refused: NO_SUBSCRIPTION, JOURNAL_FULL, CLOSED, BAD_CURSOR. */
 BROKER_CALL int broker_reconnect(broker *b, uint64_t subscription, uint64_t cursor, uint64_t *link);
 
 /* Lets a subscription that has fallen go on after its own cursor, under a new link, to which it sets `*link`. Refused:

@@ -23,8 +23,8 @@ for archive in $broker $changeset; do
     [ -e "$archive" ] || fail "no $archive: run \`rt lib\` in ${archive%/out/*}" 2
 done
 [ -e "$heap" ] || fail "no $heap: the command $RT names no toolchain" 2
-version=$(sed -n 's/^const VERSION: &str = "\(.*\)";$/\1/p' crates/rb_run/src/command.rt)
-[ -n "$version" ] || fail 'crates/rb_run/src/command.rt has no version' 2
+version=$(cat VERSION)
+[ -n "$version" ] || fail 'the file VERSION is empty' 2
 
 include=$DESTDIR$prefix/include/gubzelk lib=$DESTDIR$prefix/lib
 mkdir -p "$include" "$lib/pkgconfig" || exit 1

@@ -1,4 +1,4 @@
-/* The shortest way through a broker: an INSERT of (1, 5) into t(a PRIMARY KEY, b) is fed, placed, taken, applied and
+/* The shortest way through a broker: an INSERT of (1, 5) into t(a PRIMARY KEY, b) is placed, taken, applied and
  * acknowledged. It is built as run.c is. */
 #include <broker.h>
 #include <stdio.h>
@@ -9,8 +9,8 @@ int main(void) {
     struct broker_table t = {(const unsigned char *)"t", 1, key, 2};
     struct broker_numbers why; struct broker_delivery d; uint64_t n, link; broker *b;
     if (broker_open(&b, &limits, &t, 1, &why) || broker_publisher(b, &n) || broker_subscribe(b, 0, &n, &link)) return 1;
-    if (broker_feed(b, 0, insert, 26) || broker_end(b, 0) || broker_send(b, 0, &n) || broker_turn(b, &n)) return 1;
-    if (broker_take(b, 0, 0, &d) || broker_accept(b, d.number, &n) || broker_ack(b, d.number, &n)) return 1;
+    if (broker_place(b, 0, insert, 26, &n) || broker_take(b, 0, 0, &d)) return 1;
+    if (broker_accept(b, d.number, &n) || broker_ack(b, d.number, &n)) return 1;
     printf("settled up to entry %d\n", (int)n);
     broker_free(b);
 }

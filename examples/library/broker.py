@@ -2,18 +2,22 @@
 
 A call is a method of a Broker: take(0, 7) makes broker_take. It gets numbers, and bytes without their length, and returns
 what the call writes: one number, a tuple of numbers, or a text as bytes. It returns None if the call writes nothing, if
-nothing is ready, or if nothing waits. Each other refusal is an error. broker.h says what each number means.
+nothing is ready, or if nothing waits. Each other refusal is an error. broker.h says what each number means. Threads that
+share a Broker need a lock, since ctypes runs a call without Python's own lock.
 
 A replica's file stores `name` beside each number of the broker: under another name the number says nothing."""
-import ctypes, os
+import collections, ctypes, os
 from ctypes import byref, c_int64, c_size_t, c_uint64
 
-EMPTY, IDLE = -37, 1
+Status = collections.namedtuple('Status', 'start floor cursor offered link ready in_flight front closed fallen')
+BUSY, EMPTY, IDLE, NO_MEMORY = -6, -37, 1, -2
 # of each call that writes numbers, how many go to each of its pointers
-NUMBERS = dict(publisher=[1], send=[1], turn=[1], close=[1], left=[1], front=[1], entry=[3], subscribe=[1, 1],
-               subscribe_bare=[1, 1], take=[4], take_any=[4], accept=[1], crash=[1], cursor=[1], ack=[1],
-               nack_opened=[1], expire=[1], reconnect=[1], resume=[1])
+NUMBERS = dict(publisher=[1], send=[1], turn=[1], place=[1], close=[1], left=[1], front=[1], entry=[3],
+               subscribe=[1, 1], subscribe_bare=[1, 1], take=[4], take_any=[4], accept=[1], crash=[1], cursor=[1],
+               ack=[1], nack_opened=[1], expire=[1], reconnect=[1], resume=[1])
 TEXTS = 'text', 'combined', 'rows', 'row'
+# the calls that only read, whose refusals have no numbers
+READS = (*TEXTS, 'entry', 'cursor', 'status')
 
 
 class Refused(Exception):
@@ -46,6 +50,16 @@ class Broker:
         """Frees what is behind the handle: each later call is refused."""
         self.lib.broker_shut(self.handle)
 
+    def version(self):
+        """The version of the library, as one number."""
+        return self.lib.broker_version()
+
+    def status(self, subscription):
+        """How far a subscription has come: a Status, whose fields are those of struct broker_status."""
+        out = (c_uint64 * 9)()
+        self.ask('status', c_uint64(subscription), out)
+        return Status(*out[:8], *(byte != 0 for byte in bytes(out)[64:66]))
+
     def __getattr__(self, name):
         return lambda *operands: self.call(name, *operands)
 
@@ -68,7 +82,8 @@ class Broker:
         code = getattr(self.lib, 'broker_' + name)(self.handle, *words)
         if code < 0 and code != EMPTY:
             why = (c_uint64 * 2)()
-            self.lib.broker_why(self.handle, why)
+            if name not in READS and code not in (BUSY, NO_MEMORY):
+                self.lib.broker_why(self.handle, why)
             raise Refused(code, self.message(code), *why)
         return code
 

@@ -70,7 +70,7 @@ impl Broker {
     }
 
     /// Where a file stands that has all up to an entry.
-    pub fn place(&self, number: u64) -> Place {
+    pub fn at(&self, number: u64) -> Place {
         Place { broker: self.1.clone(), number }
     }
 
@@ -78,22 +78,9 @@ impl Broker {
         self.number(|b, publisher| unsafe { broker_publisher(b, publisher) })
     }
 
-    pub fn feed(&mut self, publisher: u64, bytes: &[u8]) -> Result<(), Error> {
-        self.done(unsafe { broker_feed(self.0, publisher, bytes.as_ptr(), bytes.len()) })
-    }
-
-    pub fn end(&mut self, publisher: u64) -> Result<(), Error> {
-        self.done(unsafe { broker_end(self.0, publisher) })
-    }
-
-    pub fn send(&mut self, publisher: u64) -> Result<u64, Error> {
-        self.number(|b, own| unsafe { broker_send(b, publisher, own) })
-    }
-
-    /// The number of the entry that is placed; `None` if nothing waits.
-    pub fn turn(&mut self) -> Result<Option<u64>, Error> {
-        let entry = self.number(|b, entry| unsafe { broker_turn(b, entry) })?;
-        Ok((entry > 0).then_some(entry))
+    /// Places a whole changeset, and returns the number of its entry.
+    pub fn place(&mut self, publisher: u64, text: &[u8]) -> Result<u64, Error> {
+        self.number(|b, entry| unsafe { broker_place(b, publisher, text.as_ptr(), text.len(), entry) })
     }
 
     /// The number and the link of a new subscription to the entries after `start`.

@@ -33,10 +33,7 @@ extern "C" {
     pub fn broker_why(b: Handle, why: &mut [u64; 2]) -> i32;
     pub fn broker_message(code: i32, words: &mut [u8; 64], room: usize) -> i64;
     pub fn broker_publisher(b: Handle, publisher: &mut u64) -> i32;
-    pub fn broker_feed(b: Handle, publisher: u64, bytes: *const u8, len: usize) -> i32;
-    pub fn broker_end(b: Handle, publisher: u64) -> i32;
-    pub fn broker_send(b: Handle, publisher: u64, own: &mut u64) -> i32;
-    pub fn broker_turn(b: Handle, entry: &mut u64) -> i32;
+    pub fn broker_place(b: Handle, publisher: u64, bytes: *const u8, len: usize, entry: &mut u64) -> i32;
     pub fn broker_subscribe(b: Handle, start: u64, subscription: &mut u64, link: &mut u64) -> i32;
     pub fn broker_take(b: Handle, subscription: u64, now: u64, delivery: &mut Delivery) -> i32;
     pub fn broker_accept(b: Handle, delivery: u64, cursor: &mut u64) -> i32;
@@ -61,10 +58,10 @@ macro_rules! codes {
 }
 
 codes! {
-    Shut = -1, NoMemory = -2, Fault = -3, BadLimit = -4, BadTable = -5, NoPublisher = -10, TooMany = -11, Holding = -12,
-    NothingStaged = -13, Closed = -14, Full = -15, NotPlaced = -16, NotYours = -17, AlreadyWithdrawn = -18,
-    SequenceFull = -19, UnknownTable = -20, ShapeDiffers = -21, JournalFull = -22, NoSubscription = -30,
-    StaleLink = -31, WindowFull = -32, NoDelivery = -33, NotInFlight = -34, Seen = -35, Drained = -36, Empty = -37,
-    NotAccepted = -38, BadCursor = -39, StartAhead = -40, Gap = -41, Shape = -42, Conflict = -43, NotFallen = -44,
-    Store = -45, NoTable = -46, NoRow = -47,
+    Shut = -1, NoMemory = -2, Fault = -3, BadLimit = -4, BadTable = -5, Busy = -6, NoPublisher = -10, TooMany = -11,
+    Holding = -12, NothingStaged = -13, Closed = -14, Full = -15, NotPlaced = -16, NotYours = -17,
+    AlreadyWithdrawn = -18, SequenceFull = -19, UnknownTable = -20, ShapeDiffers = -21, JournalFull = -22,
+    Waiting = -23, NoSubscription = -30, StaleLink = -31, WindowFull = -32, NoDelivery = -33, NotInFlight = -34,
+    Seen = -35, Drained = -36, Empty = -37, NotAccepted = -38, BadCursor = -39, StartAhead = -40, Gap = -41,
+    Shape = -42, Conflict = -43, NotFallen = -44, Store = -45, NoTable = -46, NoRow = -47,
 }

@@ -1,4 +1,4 @@
-//! Feeds changesets to a broker, lets another thread take, accept and acknowledge them, and meets a refusal. Then a new
+//! Places changesets in a broker, lets another thread take, accept and acknowledge them, and meets a refusal. Then a new
 //! broker meets a file of the first one. With the libraries installed under PREFIX (docs/C.md):
 //!
 //!     rustc --edition 2021 -O run.rs -L native=PREFIX/lib -l static=broker_c -l static=gubzelk_heap
@@ -17,16 +17,6 @@ fn insert(key: i64, value: i64) -> Vec<u8> {
     text
 }
 
-/// Feeds a changeset in pieces of 5 bytes, and places it.
-fn publish(broker: &mut Broker, publisher: u64, text: &[u8]) -> Result<(), Error> {
-    for piece in text.chunks(5) {
-        broker.feed(publisher, piece)?;
-    }
-    broker.end(publisher)?;
-    broker.send(publisher)?;
-    broker.turn().map(drop)
-}
-
 /// Takes, accepts and acknowledges all that is placed.
 fn follow(broker: &mut Broker, subscription: u64) -> Result<(), Error> {
     while let Some(delivery) = broker.take(subscription, 0)? {
@@ -43,7 +33,7 @@ fn begin(entries: i64) -> Result<(Broker, u64, u64), Error> {
     let publisher = broker.publisher()?;
     let (subscription, _link) = broker.subscribe(0)?;
     for key in 1..=entries {
-        publish(&mut broker, publisher, &insert(key, 10 * key))?;
+        broker.place(publisher, &insert(key, 10 * key))?;
     }
     Ok((broker, publisher, subscription))
 }
@@ -62,13 +52,13 @@ fn main() -> Result<(), Error> {
     thread::scope(|scope| scope.spawn(|| follow(&mut broker, subscription)).join().unwrap())?;
     println!("entries 1 and 2 as one changeset: {} bytes", broker.combined(1, 2)?.len());
 
-    publish(&mut broker, publisher, &insert(7, 0))?;
+    broker.place(publisher, &insert(7, 0))?;
     let refused = follow(&mut broker, subscription).unwrap_err();
     println!("{:?} of change {}: {refused}", refused.code, refused.why[0]);
     let cursor = broker.cursor(subscription)?;
     println!("link {} begins after entry {cursor}", broker.reconnect(subscription, cursor)?);
 
-    let file = broker.place(38);
+    let file = broker.at(38);
     meet(&mut broker, subscription, &file)?;
     let (mut broker, _publisher, subscription) = begin(2)?;
     follow(&mut broker, subscription)?;

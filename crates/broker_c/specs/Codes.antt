@@ -1,8 +1,10 @@
 -- The numbers of replies and refusals. -1 is `negsuc 0`.
-use Rattle.std.specs.Prelude.{ℕ, ℤ, pos, negsuc}
+use Rattle.std.specs.Prelude.{ℕ, ℤ, pos, negsuc, Result, Ok, Err}
 use Rattle.cs_apply.specs.Conflict.{code_of}
 use Rattle.cs_parse.specs.FaultNumber.{kind_number}
 use Rattle.cs_parse.specs.declared.fault.ParseFault.{ParseFault}
+use Rattle.rb_core.specs.declared.placing.PlacingRefusal.{PlacingRefusal}
+use Rattle.rb_core.specs.declared.placing.PlacingRefusal.TheVariants as place
 use Rattle.rb_core.specs.declared.reply.BrokerRefusal.{BrokerRefusal}
 use Rattle.rb_core.specs.declared.reply.BrokerRefusal.TheVariants as refusal
 use Rattle.rb_core.specs.declared.reply.Reply.{Reply}
@@ -99,3 +101,25 @@ abbrev pub numbers_after : Reply → Why → Why
 numbers_after (reply.Fault fault) before = reply_numbers (reply.Fault fault)
 numbers_after (reply.Refused why) before = reply_numbers (reply.Refused why)
 numbers_after other before = before
+
+-- ---- placings
+
+-- the code and the numbers of a placing that places nothing
+abbrev pub placing_code : PlacingRefusal → ℤ
+placing_code (place.Waiting count) = negsuc 22
+placing_code (place.Fault fault) = negsuc 2
+placing_code (place.Refused why) = refusal_code why
+
+abbrev pub placing_why : PlacingRefusal → Why
+placing_why (place.Waiting count) = numbers count 0
+placing_why (place.Fault fault) = fault_why fault
+placing_why (place.Refused why) = refusal_why why
+
+-- the code of any placing, and a handle's numbers after it
+abbrev pub code_by : Result ℕ PlacingRefusal → ℤ
+code_by (Ok number) = pos 0
+code_by (Err why) = placing_code why
+
+abbrev pub numbers_by : Result ℕ PlacingRefusal → Why → Why
+numbers_by (Ok number) before = before
+numbers_by (Err why) before = placing_why why

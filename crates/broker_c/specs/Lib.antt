@@ -3,6 +3,7 @@ pub mod Codes
 pub mod Handle
 pub mod Messages
 pub mod Opening
+pub mod Placing
 pub mod RowTexts
 pub mod Rows
 pub mod Serving

@@ -21,6 +21,7 @@ words_below n =
     if n == 3 then codes "the stream spells no changeset" else
     if n == 4 then codes "a limit is out of its range" else
     if n == 5 then codes "a table is refused" else
+    if n == 6 then codes "another call is in the handle" else
     if n == 10 then codes "no publisher has this number" else
     if n == 11 then codes "there are too many publishers or subscriptions" else
     if n == 12 then codes "a changeset is staged already" else
@@ -34,6 +35,7 @@ words_below n =
     if n == 20 then codes "a section is of a table that is not the broker's" else
     if n == 21 then codes "a section has another shape than its table" else
     if n == 22 then codes "all steps are made" else
+    if n == 23 then codes "other changesets wait to be placed" else
     if n == 30 then codes "no subscription has this number" else
     if n == 31 then codes "the subscription has another link now" else
     if n == 32 then codes "the window is full" else

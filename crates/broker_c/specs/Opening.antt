@@ -1,4 +1,5 @@
 -- What `broker_open` does.
+use denote.RawPtr.{InBlock}
 use Rattle.std.specs.Prelude.{◌≡◌, ℕ, ℤ, pos, negsuc, zero, suc, true, List, [], map}
 use Rattle.std.specs.Prelude.{Option, Some, None}
 use Rattle.cs_model.specs.Schema.{tables_refusal}
@@ -12,7 +13,7 @@ use Rattle.rb_desk.specs.declared.config.ConfigFault.{ConfigFault}
 use Rattle.rb_desk.specs.declared.config.ConfigFault.TheVariants.{Batch, Window, Timeout, Capacity}
 use Rattle.rb_desk.specs.declared.config.ConfigFault.TheVariants.{Intake, Appliers}
 use Rattle.broker_c.specs.Codes.{numbers}
-use Rattle.broker_c.specs.Handle.{HoldsWorld, IsShut}
+use Rattle.broker_c.specs.Handle.{HoldsWorld, IsBusy, IsShut}
 use Rattle.broker_c.specs.declared.codes.Why.{Why}
 use Rattle.broker_c.specs.declared.handle.Handle.{Handle}
 use Rattle.broker_c.specs.declared.limits.Limits.{Limits}
@@ -110,9 +111,15 @@ Opens (negsuc (suc (suc (suc (suc zero))))) limits tables before after was is =
     HasBadTable limits tables is × (after ≡ before)
 Opens (negsuc (suc (suc (suc (suc (suc n)))))) limits tables before after was is = ⊥
 
--- What the result of `broker_why` says: 0 and the handle's numbers, or -1 for a handle that is
--- shut.
+-- What the result of `broker_why` says: 0 and the handle's numbers, -1 for a handle that is shut,
+-- or -6 for one that another call is in.
 abbrev pub TellsWhy : ℤ → Handle → Why → Why → Type 0
 TellsWhy (pos n) b was is = (n ≡ 0) × (b.seal.full ≡ true) × (is ≡ b.why)
 TellsWhy (negsuc zero) b was is = IsShut b × (is ≡ was)
-TellsWhy (negsuc (suc n)) b was is = ⊥
+TellsWhy (negsuc (suc (suc (suc (suc (suc zero)))))) b was is = IsBusy b × (is ≡ was)
+TellsWhy (negsuc n) b was is = ⊥
+
+-- What C hands to `broker_free`: a null pointer, or a handle that `broker_open` gave out and nothing
+-- has freed. So a pointer that isn't null has a handle.
+abbrev pub IsHandleOrNull : Slot → Type 0
+IsHandleOrNull slot = InBlock slot.pointer → slot.full ≡ true

@@ -9,7 +9,7 @@ use Rattle.rb_core.specs.declared.event.Event.TheVariants as event
 use Rattle.rb_core.specs.declared.reply.Reply.{Reply}
 use Rattle.rb_core.specs.declared.reply.Reply.TheVariants as reply
 use Rattle.broker_c.specs.Codes.{code, numbers_after}
-use Rattle.broker_c.specs.Handle.{HoldsWorld, IsShut, KeepsWorld}
+use Rattle.broker_c.specs.Handle.{HoldsWorld, IsBusy, IsShut, KeepsWorld}
 use Rattle.broker_c.specs.declared.handle.Handle.{Handle}
 use Rattle.broker_c.specs.declared.serving.Taken.{Taken}
 
@@ -38,14 +38,15 @@ pub record Starved (event : Event) (before after : Handle) (Same : Type 0) : Typ
   pub why : after.why ≡ before.why
   pub same : Same
 
--- What the result says: -1 for a handle that is shut, and -2 if memory ran out. Nothing changed
--- then. Any other result says that the event is served.
+-- What the result says: -1 for a handle that is shut, -6 for one that another call is in, and -2 if
+-- memory ran out. Nothing changed then. Any other result says that the event is served.
 abbrev pub Serves : ℤ → Event → Handle → Handle → (Reply → Type 0) → Type 0 → Type 0
 Serves (pos n) event before after Outputs Same = Served (pos n) event before after Outputs
 Serves (negsuc zero) event before after Outputs Same = IsShut before × (after ≡ before) × Same
 Serves (negsuc (suc zero)) event before after Outputs Same = Starved event before after Same
-Serves (negsuc (suc (suc n))) event before after Outputs Same =
-    Served (negsuc (suc (suc n))) event before after Outputs
+Serves (negsuc (suc (suc (suc (suc (suc zero)))))) event before after Outputs Same =
+    IsBusy before × (after ≡ before) × Same
+Serves (negsuc n) event before after Outputs Same = Served (negsuc n) event before after Outputs
 
 -- ---- outputs
 
@@ -109,5 +110,7 @@ ServesFeed (pos n) publisher bytes before after =
     ServesAlone (pos n) (event.Feed publisher bytes) before after
 ServesFeed (negsuc zero) publisher bytes before after = IsShut before × (after ≡ before)
 ServesFeed (negsuc (suc zero)) publisher bytes before after = KeepsWorld before after
-ServesFeed (negsuc (suc (suc n))) publisher bytes before after =
-    ServesAlone (negsuc (suc (suc n))) (event.Feed publisher bytes) before after
+ServesFeed (negsuc (suc (suc (suc (suc (suc zero)))))) publisher bytes before after =
+    IsBusy before × (after ≡ before)
+ServesFeed (negsuc n) publisher bytes before after =
+    ServesAlone (negsuc n) (event.Feed publisher bytes) before after

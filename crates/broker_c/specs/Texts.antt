@@ -9,11 +9,14 @@ use Rattle.cs_write.specs.Buffer.{given}
 use Rattle.cs_write.specs.Text.{text_of}
 use Rattle.rb_core.specs.Combined.{combined_of}
 use Rattle.rb_core.specs.Outcome.{entry_of}
+use Rattle.rb_core.specs.declared.status.SubscriptionStatus.{SubscriptionStatus}
 use Rattle.rb_core.specs.State.{State, how_many_wait}
+use Rattle.rb_core.specs.Status.{subscription_status}
 use Rattle.rb_sequence.specs.Entry.{Entry}
-use Rattle.broker_c.specs.Handle.{HoldsWorld, IsShut}
+use Rattle.broker_c.specs.Handle.{HoldsWorld, IsBusy, IsShut}
 use Rattle.broker_c.specs.declared.handle.Handle.{Handle}
 use Rattle.broker_c.specs.declared.texts.About.{About}
+use Rattle.broker_c.specs.declared.texts.Standing.{Standing}
 
 -- ---- any reading
 
@@ -26,12 +29,14 @@ pub record ReadsWorld (before after : Handle) (IsSo : State → Type 0) : Type 0
   pub why : after.why ≡ before.why
   pub so : IsSo world
 
--- What the result says: -1 for a handle that is shut, of which nothing changed; any other result
--- tells something of the world.
+-- What the result says: -1 for a handle that is shut, and -6 for one that another call is in, of
+-- which nothing changed; any other result tells something of the world.
 abbrev pub TellsOf : ℤ → Handle → Handle → (ℤ → State → Type 0) → Type 0 → Type 0
 TellsOf (pos n) before after IsSo Same = ReadsWorld before after (IsSo (pos n))
 TellsOf (negsuc zero) before after IsSo Same = IsShut before × (after ≡ before) × Same
-TellsOf (negsuc (suc n)) before after IsSo Same = ReadsWorld before after (IsSo (negsuc (suc n)))
+TellsOf (negsuc (suc (suc (suc (suc (suc zero)))))) before after IsSo Same =
+    IsBusy before × (after ≡ before) × Same
+TellsOf (negsuc n) before after IsSo Same = ReadsWorld before after (IsSo (negsuc n))
 
 -- ---- an entry's text
 
@@ -106,6 +111,32 @@ cursor_in world s = option_map (λ end. end.cursor) (slice_get world.endpoints s
 abbrev pub ReadsCursor : ℤ → ℕ → Handle → Handle → ℕ → ℕ → Type 0
 ReadsCursor result s before after was is =
     TellsOf result before after (λ z world. IsCursorOf z (cursor_in world s) was is) (is ≡ was)
+
+-- what is known of a subscription, as C gets it
+abbrev pub status_for_c : SubscriptionStatus → Standing
+status_for_c q = record {
+  start = q.start;
+  floor = q.floor;
+  cursor = q.cursor;
+  offered = q.offered;
+  link = q.link;
+  ready = q.ready;
+  in_flight = q.in_flight;
+  front = q.front;
+  closed = q.closed;
+  fallen = q.fallen;
+}
+
+-- 0 and what is known of the subscription, or -30 if there is none
+abbrev pub IsStatusOf : ℤ → Option SubscriptionStatus → Standing → Standing → Type 0
+IsStatusOf (pos n) None was is = ⊥
+IsStatusOf (pos n) (Some q) was is = (n ≡ 0) × (is ≡ status_for_c q)
+IsStatusOf (negsuc n) None was is = (n ≡ 29) × (is ≡ was)
+IsStatusOf (negsuc n) (Some q) was is = ⊥
+
+abbrev pub ReadsStatus : ℤ → ℕ → Handle → Handle → Standing → Standing → Type 0
+ReadsStatus result s before after was is =
+    TellsOf result before after (λ z world. IsStatusOf z (subscription_status world s) was is) (is ≡ was)
 
 abbrev pub ReadsFront : ℤ → Handle → Handle → ℕ → ℕ → Type 0
 ReadsFront result before after was is =

@@ -4,7 +4,7 @@ ghost use Rattle.std.specs.Prelude.{◌≡◌};
 ghost use Rattle.broker_c.specs.Codes as codes;
 
 use cs_parse::ParseFault;
-use rb_core::{BrokerRefusal, Reply};
+use rb_core::{BrokerRefusal, PlacingRefusal, Reply};
 use rb_desk::DeskRefusal;
 use rb_subscriber::AcceptRefusal;
 
@@ -16,6 +16,10 @@ pub const NO_MEMORY: i32 = -2;
 pub const BAD_LIMIT: i32 = -4;
 /// A table is refused.
 pub const BAD_TABLE: i32 = -5;
+/// Another call is in the handle.
+pub const BUSY: i32 = -6;
+/// Other changesets wait to be placed.
+pub const WAITING: i32 = -23;
 /// No entry has this number.
 pub const NOT_PLACED: i32 = -16;
 /// No subscription has this number.
@@ -105,6 +109,29 @@ fn refusal_code(why: BrokerRefusal) -> i32
         Accept(AcceptRefusal::Conflict(_)) => -43,
         BrokerRefusal::NotFallen => -44,
         Accept(AcceptRefusal::Store) => -45,
+    }
+}
+
+/// The code of a placing.
+pub fn placing_code(answer: Result<u64, PlacingRefusal>) -> i32
+    ensures { result ≡ codes.code_by answer }
+{
+    match answer {
+        Ok(_) => 0,
+        Err(PlacingRefusal::Waiting(_)) => WAITING,
+        Err(PlacingRefusal::Fault(_)) => -3,
+        Err(PlacingRefusal::Refused(why)) => refusal_code(why),
+    }
+}
+
+/// The numbers of a placing that places nothing.
+pub fn placing_why(why: PlacingRefusal) -> Why
+    ensures { result ≡ codes.placing_why why }
+{
+    match why {
+        PlacingRefusal::Waiting(count) => numbers(count, 0),
+        PlacingRefusal::Fault(fault) => fault_why(fault),
+        PlacingRefusal::Refused(why) => refusal_why(why),
     }
 }
 

@@ -4,20 +4,22 @@ ghost use Rattle.std.specs.Prelude.{◌≡◌, true, false, IfOk, OnErr};
 ghost use Rattle.std.specs.Box.{box_value};
 ghost use Rattle.rb_core.specs.Memory.{MayRunOut};
 ghost use Rattle.rb_core.specs.Outcome.{outcome};
+ghost use Rattle.rb_core.specs.Placing.{MayStarve, placing};
 ghost use Rattle.broker_c.specs.Codes as codes;
 
-use crate::codes::{Why, why_after};
+use crate::codes::{Why, placing_why, why_after};
 use crate::parts::Parts;
 use crate::seal::Seal;
-use rb_core::{Event, Reply, World};
+use rb_core::{Event, PlacingError, PlacingRefusal, Reply, World};
 use std::alloc::{AllocError, Global};
 use std::mem;
 
-/// A broker, as C holds one. It is open while it holds a world. `why` has the numbers of the last
-/// fault or refusal.
+/// A broker, as C holds one. It is open while it holds a world, and busy while a call has taken the
+/// world out. `why` has the numbers of the last fault or refusal.
 #[repr(C)]
 pub struct Handle {
     is_open: bool,
+    is_busy: bool,
     seal: Seal,
     why: Why,
     ghost tied: { is_open ≡ seal.full },
@@ -32,6 +34,7 @@ impl Handle {
     {
         Handle {
             is_open: true,
+            is_busy: false,
             seal: Seal::of_parts(Parts::of(world)),
             why,
         }
@@ -44,6 +47,13 @@ impl Handle {
         self.is_open
     }
 
+    /// Whether another call has taken the world out.
+    pub fn is_busy(&self) -> bool
+        ensures { result ≡ self.now.is_busy }
+    {
+        self.is_busy
+    }
+
     /// The numbers of the last fault or refusal.
     pub fn why(&self) -> Why
         ensures { result ≡ self.now.why }
@@ -51,14 +61,16 @@ impl Handle {
         self.why
     }
 
-    /// Takes the world out. The numbers stay.
+    /// Takes the world out, for one call. The numbers stay.
     pub fn take(&mut self, alloc: Global) -> Box<World>
         requires { self.old.seal.full ≡ true }
         ensures value { box_value result ≡ self.old.seal.held }
         ensures full { self.new.seal.full ≡ false }
+        ensures busy { self.new.is_busy ≡ true }
         ensures why { self.new.why ≡ self.old.why }
     {
         self.is_open = false;
+        self.is_busy = true;
         mem::replace(&mut self.seal, Seal::none(alloc))
             .into_parts()
             .into_box()
@@ -69,11 +81,23 @@ impl Handle {
         requires { self.old.seal.full ≡ false }
         ensures full { self.new.seal.full ≡ true }
         ensures held { self.new.seal.held ≡ box_value world }
+        ensures busy { self.new.is_busy ≡ false }
         ensures why { self.new.why ≡ why }
     {
         self.is_open = true;
+        self.is_busy = false;
         self.why = why;
         mem::replace(&mut self.seal, Seal::of_parts(Parts::of(world))).end();
+    }
+
+    /// Ends the handle's last call, which has let the world go.
+    pub fn shut(&mut self)
+        requires { self.old.seal.full ≡ false }
+        ensures full { self.new.seal.full ≡ false }
+        ensures busy { self.new.is_busy ≡ false }
+        ensures why { self.new.why ≡ self.old.why }
+    {
+        self.is_busy = false;
     }
 
     /// Applies an event to the world, and returns the reply. After a fault or a refusal the numbers
@@ -102,12 +126,48 @@ impl Handle {
             }
         }
     }
+
+    /// Places a whole changeset. After a refusal the numbers are its. Returns `AllocError` if memory
+    /// runs out, and changes nothing then.
+    pub fn place(
+        &mut self,
+        alloc: Global,
+        publisher: u64,
+        text: &[u8],
+    ) -> Result<Result<u64, PlacingRefusal>, AllocError>
+        requires { self.old.seal.full ≡ true }
+        ensures full { self.new.seal.full ≡ true }
+        ensures ok { IfOk result (λ placed. placing self.old.seal.held publisher text.now
+            ≡ (placed, self.new.seal.held)) }
+        ensures why { IfOk result (λ placed. self.new.why ≡ codes.numbers_by placed self.old.why) }
+        ensures err { OnErr result (self.new.seal.held ≡ self.old.seal.held) }
+        ensures same_why { OnErr result (self.new.why ≡ self.old.why) }
+        ensures memory { OnErr result (MayStarve self.old.seal.held publisher text.now) }
+    {
+        let why = self.why;
+        let mut world = self.take(alloc);
+        match world.place(alloc, publisher, text) {
+            Ok(number) => {
+                self.put(world, why);
+                Ok(Ok(number))
+            }
+            Err(PlacingError::Refused(refusal)) => {
+                self.put(world, placing_why(refusal));
+                Ok(Err(refusal))
+            }
+            Err(PlacingError::Memory) => {
+                self.put(world, why);
+                Err(AllocError)
+            }
+        }
+    }
 }
 
 impl Drop for Handle {
     fn drop(self) {
         let Handle {
             is_open,
+            is_busy: _,
             seal,
             why: _,
         } = self;

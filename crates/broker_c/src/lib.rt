@@ -9,6 +9,7 @@ mod limits;
 mod messages;
 mod opening;
 mod parts;
+mod placing;
 mod publishers;
 mod reading;
 mod row_texts;
@@ -20,4 +21,5 @@ mod subscriptions;
 #[cfg(test)]
 mod tests;
 mod texts;
+mod version;
 mod writing;

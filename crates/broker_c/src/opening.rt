@@ -1,13 +1,14 @@
 //! The calls that give out a handle, let go of its world, free it, and tell its numbers.
 
-ghost use Rattle.std.specs.Prelude.{◌≡◌, [], IfErr, IfOk, None, false, true};
+ghost use Rattle.std.specs.Prelude.{◌≡◌, [], IfErr, IfOk, None, false};
 ghost use Rattle.std.specs.Box.{box_value};
 ghost use Rattle.cs_model.specs.Schema.{tables_refusal};
-ghost use Rattle.broker_c.specs.Handle.{IsShut};
-ghost use Rattle.broker_c.specs.Opening.{IsBegun, Opens, RefusesOpening, RefusesSchema, TellsWhy};
+ghost use Rattle.broker_c.specs.Handle.{Shuts};
+ghost use Rattle.broker_c.specs.Opening.{IsBegun, IsHandleOrNull, Opens, RefusesOpening};
+ghost use Rattle.broker_c.specs.Opening.{RefusesSchema, TellsWhy};
 ghost use Rattle.broker_c.specs.Opening as opening;
 
-use crate::codes::{BAD_LIMIT, BAD_TABLE, NO_MEMORY, SHUT, Why, numbers};
+use crate::codes::{BAD_LIMIT, BAD_TABLE, BUSY, NO_MEMORY, SHUT, Why, numbers};
 use crate::handle::Handle;
 use crate::limits::{Limits, Table, config_of, place_of, shapes_of, table_why};
 use crate::parts::Parts;
@@ -102,32 +103,44 @@ pub extern "C" fn broker_open(
 }
 
 /// Lets go of everything behind the handle. The handle itself stays, and its other calls return -1
-/// from then on. A handle that is shut stays as it is.
+/// from then on. A handle that is shut stays as it is, and so does one that another call is in.
 #[unsafe(no_mangle)]
 pub extern "C" fn broker_shut(alloc: Global, broker: &mut Handle)
-    ensures shut { IsShut broker.new }
+    ensures shut { Shuts broker.old.is_busy broker.old broker.new }
     ensures why { broker.new.why ≡ broker.old.why }
 {
+    if broker.is_busy() {
+        return;
+    }
     if broker.is_open() {
         drop(broker.take(alloc));
     }
+    broker.shut();
 }
 
-/// Frees a handle with everything behind it. No call may be given it again.
+/// Frees a handle with everything behind it. No call may be given it again. A null pointer is no
+/// handle, and nothing is done.
 #[unsafe(no_mangle)]
 pub extern "C" fn broker_free(_alloc: Global, slot: Slot)
-    requires { slot.full ≡ true }
+    requires { IsHandleOrNull slot }
 {
-    drop(slot.into_parts().into_box());
+    match slot.tested() {
+        (slot, true) => drop(slot.into_parts().into_box()),
+        (slot, false) => slot.end(),
+    }
 }
 
 /// Tells the numbers of the last event whose code was -3 or less. Sets `why` to them and returns 0,
-/// or returns -1 if the handle is shut. It leaves the handle as it is.
+/// or returns -1 if the handle is shut, or -6 if another call is in it. It leaves the handle as it
+/// is.
 #[unsafe(no_mangle)]
 pub extern "C" fn broker_why(broker: &Handle, why: &mut Why) -> i32
     ensures { TellsWhy result broker.now why.old why.new }
 {
     if !broker.is_open() {
+        if broker.is_busy() {
+            return BUSY;
+        }
         return SHUT;
     }
     *why = broker.why();

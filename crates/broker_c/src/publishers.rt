@@ -1,13 +1,13 @@
 //! The calls for publishers and for the sequence.
 //!
 //! Every call returns the code of its reply: 0, or a negative one. It returns -1 if the handle is
-//! shut, and -2 if memory runs out. A call with a negative code sets no output. A stream
-//! keeps its fault, and a refused turn may change the world (`BrokerRefusal`).
+//! shut, -6 if another call is in it, and -2 if memory runs out. A call with a negative code sets
+//! no output. A stream keeps its fault, and a refused turn may change the world (`BrokerRefusal`).
 
 ghost use Rattle.rb_core.specs.declared.event.Event.TheVariants as event;
 ghost use Rattle.broker_c.specs.Serving.{ServesAlone, ServesFeed, ServesNumber};
 
-use crate::codes::{NO_MEMORY, SHUT};
+use crate::codes::{BUSY, NO_MEMORY, SHUT};
 use crate::handle::Handle;
 use crate::serving::{serve, serve_number};
 use cs_model::Seq;
@@ -36,6 +36,9 @@ pub extern "C" fn broker_feed(
     ensures { ServesFeed result publisher bytes.now broker.old broker.new }
 {
     if !broker.is_open() {
+        if broker.is_busy() {
+            return BUSY;
+        }
         return SHUT;
     }
     let Ok(bytes) = Seq::from_slice(alloc, bytes) else {

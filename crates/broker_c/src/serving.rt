@@ -4,7 +4,7 @@ ghost use Rattle.std.specs.Prelude.{◌≡◌};
 ghost use Rattle.broker_c.specs.Serving.{ServesAlone, ServesLink, ServesNumber, ServesTaken};
 ghost use Rattle.broker_c.specs.Serving as serving;
 
-use crate::codes::{NO_MEMORY, SHUT, code};
+use crate::codes::{BUSY, NO_MEMORY, SHUT, code};
 use crate::handle::Handle;
 use rb_core::{Event, Reply};
 use std::alloc::Global;
@@ -19,11 +19,14 @@ pub struct Taken {
     pub last: u64,
 }
 
-// The code of an event's reply, behind which `$set` sets the outputs; -1 if the handle is shut, or
-// -2 if memory runs out.
+// The code of an event's reply, behind which `$set` sets the outputs; -1 if the handle is shut, -6
+// if another call is in it, or -2 if memory runs out.
 macro_rules! served {
     ($alloc:ident, $broker:ident, $event:ident, |$reply:ident| $set:block) => {{
         if !$broker.is_open() {
+            if $broker.is_busy() {
+                return BUSY;
+            }
             return SHUT;
         }
         match $broker.serve($alloc, $event) {
@@ -37,7 +40,7 @@ macro_rules! served {
 }
 
 /// Serves an event whose call has no outputs. Returns the reply's code, -1 if the handle is shut,
-/// or -2 if memory runs out.
+/// -6 if another call is in it, or -2 if memory runs out.
 pub fn serve(alloc: Global, broker: &mut Handle, event: &Event) -> i32
     ensures { ServesAlone result event.now broker.old broker.new }
 {

@@ -1,5 +1,6 @@
 //! What C sees as a `broker *`: a handle's box, without its type.
 
+ghost use denote.RawPtr.{InBlock};
 ghost use Rattle.std.specs.Prelude.{◌≡◌, Bool, true, false};
 ghost use Rattle.broker_c.specs.Boxed.{owns_if};
 ghost use Rattle.broker_c.specs.contracts.handle.Handle as handle;
@@ -8,6 +9,7 @@ use crate::handle::Handle;
 use crate::parts::Parts;
 use std::alloc::Global;
 use std::marker::Model;
+use std::ptr;
 
 /// A handle's box, or nothing. It owns the handle if it is `full`, and `held` is the handle then.
 #[repr(C)]
@@ -54,6 +56,15 @@ impl Slot {
             pointer: pointer as *mut Handle,
             alloc,
         }
+    }
+
+    /// The slot, and whether it has a handle: whether its pointer isn't null.
+    pub fn tested(self) -> (Slot, bool)
+        requires { InBlock self.pointer → self.full ≡ true }
+        ensures { (result.0 ≡ self) × (result.1 ≡ self.full) }
+    {
+        let is_full = self.pointer != ptr::null_mut();
+        (self, is_full)
     }
 }
 

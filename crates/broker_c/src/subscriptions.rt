@@ -1,9 +1,9 @@
 //! The calls for subscriptions and their deliveries. A `now` is any tick of the caller's clock.
 //!
 //! Every call returns the code of its reply: 0, or a negative one. It returns -1 if the handle is
-//! shut, and -2 if memory runs out. A call with a negative code sets no output, and changes nothing
-//! but the numbers that `broker_why` tells. All but `broker_accept` and `broker_crash` return -22
-//! where the journal is full.
+//! shut, -6 if another call is in it, and -2 if memory runs out. A call with a negative code sets
+//! no output, and changes nothing but the numbers that `broker_why` tells. All but `broker_accept`
+//! and `broker_crash` return -22 where the journal is full.
 
 ghost use Rattle.rb_core.specs.declared.event.Event.TheVariants as event;
 ghost use Rattle.broker_c.specs.Serving.{ServesAlone, ServesLink, ServesNumber, ServesTaken};

@@ -5,13 +5,14 @@ use crate::handle::Handle;
 use crate::limits::{Limits, Table};
 use crate::messages::broker_message;
 use crate::opening::{broker_shut, opened};
+use crate::placing::broker_place;
 use crate::publishers::{broker_end, broker_feed, broker_publisher, broker_send, broker_turn};
 use crate::rows::{broker_row, broker_rows};
 use crate::serving::Taken;
 use crate::subscriptions::{
     broker_accept, broker_ack, broker_subscribe, broker_subscribe_bare, broker_take,
 };
-use crate::texts::{broker_combined, broker_text};
+use crate::texts::{Standing, broker_combined, broker_status, broker_text};
 use std::alloc::{AllocError, Global};
 use std::process::Abort;
 use std::test::*;
@@ -109,6 +110,37 @@ fn keeps_none(rt: &impl Abort, alloc: Global, broker: &mut Handle) {
     assert_eq!(rt; (number, link, cursor), (1, 2, 1));
 }
 
+// a whole changeset is placed in one call, and a subscription tells how far it has come
+fn places_whole(rt: &impl Abort, alloc: Global, broker: &mut Handle) {
+    let mut entry = 7;
+    assert_eq!(rt;
+        broker_place(alloc, broker, 0, &INSERTED[..25], &mut entry),
+        -3
+    );
+    assert_eq!(rt;
+        (broker_place(alloc, broker, 0, &INSERTED, &mut entry), entry),
+        (0, 2)
+    );
+    let mut found = Standing {
+        start: 7,
+        floor: 7,
+        cursor: 7,
+        offered: 7,
+        link: 7,
+        ready: 7,
+        in_flight: 7,
+        front: 7,
+        closed: true,
+        fallen: true,
+    };
+    assert_eq!(rt; broker_status(alloc, broker, 2, &mut found), -30);
+    assert_eq!(rt; broker_status(alloc, broker, 0, &mut found), 0);
+    assert_eq!(rt; (found.start, found.floor, found.cursor), (0, 1, 1));
+    assert_eq!(rt; (found.offered, found.link, found.front), (1, 1, 2));
+    assert_eq!(rt; (found.ready, found.in_flight), (1, 0));
+    assert!(rt; !found.closed && !found.fallen);
+}
+
 // a code in words
 fn says(rt: &impl Abort) {
     let mut words = [9u8; 25];
@@ -137,6 +169,7 @@ fn a_changeset_goes_through(rt: HostRuntime) -> Result<(), Fail> {
     tells(&rt, alloc, &mut broker);
     tells_rows(&rt, alloc, &mut broker);
     keeps_none(&rt, alloc, &mut broker);
+    places_whole(&rt, alloc, &mut broker);
     says(&rt);
     broker_shut(alloc, &mut broker);
     Ok(())

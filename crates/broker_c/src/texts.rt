@@ -1,14 +1,15 @@
 //! The calls that read a broker and leave it as it is. They don't change the numbers that
-//! `broker_why` tells, and return -1 if the handle is shut.
+//! `broker_why` tells, and return -1 if the handle is shut, or -6 if another call is in it.
 
 ghost use Rattle.std.specs.Prelude.{◌≡◌, IfOk, OnErr, OnOk, length, pos};
 ghost use Rattle.cs_write.specs.Buffer.{given};
 ghost use Rattle.cs_write.specs.Text.{text_of};
 ghost use Rattle.rb_core.specs.Combined.{combined_of};
 ghost use Rattle.rb_core.specs.Outcome.{entry_of};
-ghost use Rattle.broker_c.specs.Texts.{IsAboutOf, IsCombinedOf, IsCursorOf, IsTextOf};
+ghost use Rattle.rb_core.specs.Status.{subscription_status};
+ghost use Rattle.broker_c.specs.Texts.{IsAboutOf, IsCombinedOf, IsCursorOf, IsStatusOf, IsTextOf};
 ghost use Rattle.broker_c.specs.Texts.{ReadsAbout, ReadsCombined, ReadsCursor, ReadsFront};
-ghost use Rattle.broker_c.specs.Texts.{ReadsLeft, ReadsText};
+ghost use Rattle.broker_c.specs.Texts.{ReadsLeft, ReadsStatus, ReadsText};
 ghost use Rattle.broker_c.specs.Texts as texts;
 
 use crate::codes::{NO_MEMORY, NO_SUBSCRIPTION, NOT_PLACED};
@@ -17,7 +18,7 @@ use crate::reading::told;
 use crate::writing::text_into;
 use cs_model::{Changeset, Origin};
 use cs_write::write_to;
-use rb_core::{Entry, World};
+use rb_core::{Entry, SubscriptionStatus, World};
 use std::alloc::{AllocError, Global};
 
 /// What is known of an entry beside its text: its publisher, its number among the publisher's
@@ -171,6 +172,70 @@ pub extern "C" fn broker_cursor(
         broker,
         |world| cursor_into(&world, subscription, cursor)
     )
+}
+
+/// What is known of a subscription, as C gets it: `rb_core::SubscriptionStatus` says what each
+/// field is.
+#[derive(Clone, Copy)]
+#[repr(C)]
+pub struct Standing {
+    pub start: u64,
+    pub floor: u64,
+    pub cursor: u64,
+    pub offered: u64,
+    pub link: u64,
+    pub ready: u64,
+    pub in_flight: u64,
+    pub front: u64,
+    pub closed: bool,
+    pub fallen: bool,
+}
+
+/// How far a subscription has come. Sets `status` and returns 0, or returns -30 for an unknown
+/// subscription.
+#[unsafe(no_mangle)]
+pub extern "C" fn broker_status(
+    alloc: Global,
+    broker: &mut Handle,
+    subscription: u64,
+    status: &mut Standing,
+) -> i32
+    ensures { ReadsStatus result subscription broker.old broker.new status.old status.new }
+{
+    told!(
+        alloc,
+        broker,
+        |world| status_into(&world, subscription, status)
+    )
+}
+
+fn status_into(world: &World, subscription: u64, status: &mut Standing) -> i32
+    ensures { IsStatusOf result (subscription_status world.now subscription) status.old status.new }
+{
+    match world.status(subscription) {
+        Some(found) => {
+            *status = status_for_c(found);
+            0
+        }
+        None => NO_SUBSCRIPTION,
+    }
+}
+
+fn status_for_c(q: SubscriptionStatus) -> Standing
+    ensures { result ≡ texts.status_for_c q }
+{
+    Standing {
+        start: q.start,
+        floor: q.floor,
+        cursor: q.cursor,
+        offered: q.offered,
+        link: q.link,
+        ready: q.ready,
+        in_flight: q.in_flight,
+        front: q.front,
+        closed: q.closed,
+        fallen: q.fallen,
+    }
 }
 
 fn cursor_into(world: &World, subscription: u64, cursor: &mut u64) -> i32

@@ -6,3 +6,5 @@ pub mod invariants
 pub mod reports
 -- Laws of whole runs, from the courses that they report.
 pub mod whole_runs
+-- Placing a whole changeset in one call.
+pub mod whole_placings

@@ -9,3 +9,4 @@ pub mod AcceptedCursor
 pub mod ConflictRuns
 pub mod DeskReplays
 pub mod BareRuns
+pub mod BaseRuns

@@ -12,8 +12,8 @@ use Rattle.rb_core.specs.declared.event.Event.{Event}
 use Rattle.rb_core.specs.declared.publisher.PublisherState.{PublisherState}
 use Rattle.rb_core.specs.Moves.{AreAllOf, HasRun, IsFront, IsSending, StaysClosed, items_of}
 use Rattle.rb_core.specs.Run.{Answer}
-use Rattle.rb_core.specs.State.{State, AreTablesBegun}
-use Rattle.rb_core.specs.Told.{Paired, world_told}
+use Rattle.rb_core.specs.State.{State}
+use Rattle.rb_core.specs.Told.{Paired, all_tables_asked, world_told}
 use Rattle.rb_core.specs.World.{Sender, Subscriber, endpoint_of}
 
 -- the publisher's stream has taken what the publisher was fed
@@ -24,11 +24,12 @@ HasTakenFed publisher sender = Took publisher.stream sender.text
 -- of the subscriptions: each has the start, link, mark and tables of its subscription, and its
 -- cursor is the last number that the subscription accepted. Where what a subscription accepted
 -- applies singly, without conflict, to the tables that it began with, the tables of its endpoint
--- are what one thread gets that applies it so. It began with tables of the schema without rows, all
--- of them kept or none. Whether or not it applies singly: the batches that a subscription accepted,
--- each the entries of one delivery, are its accepted entries, in order. The tables of its endpoint
--- are what the groups of the batches leave, applied one batch after another to the tables that it
--- began with.
+-- are what one thread gets that applies it so. The tables that the subscriptions began with are
+-- those asked for, in order: without rows, all of the schema kept where it was `Subscribe`, none
+-- where it was `SubscribeBare`. Whether or not it applies singly: the batches that a subscription
+-- accepted, each the entries of one delivery, are its accepted entries, in order. The tables of its
+-- endpoint are what the groups of the batches leave, applied one batch after another to the tables
+-- that it began with.
 -- Each publisher's entries are the front of what it sent, in that order, and the rest is in hand or
 -- in the intake; each sending is placed once; each entry is a sending. Each publisher's stream has
 -- taken what the publisher was fed.
@@ -45,9 +46,8 @@ pub record KeepsHeadline (schema : List Shape) (events : List Event) (answers : 
       → slice_get (world_told schema events answers).subscribers s ≡ Some subscriber
       → (end : Endpoint) × (slice_get new.endpoints s ≡ Some end)
       × HasSingleTables subscriber.base subscriber.accepted end.tables
-  pub begun : (s : ℕ) (subscriber : Subscriber)
-      → slice_get (world_told schema events answers).subscribers s ≡ Some subscriber
-      → AreTablesBegun schema subscriber.base
+  pub begun : map (λ q. q.base) (world_told schema events answers).subscribers
+      ≡ all_tables_asked schema events answers
   pub batches : (s : ℕ) (subscriber : Subscriber)
       → slice_get (world_told schema events answers).subscribers s ≡ Some subscriber
       → (end : Endpoint) × (slice_get new.endpoints s ≡ Some end)

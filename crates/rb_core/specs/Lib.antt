@@ -3,6 +3,8 @@ pub mod Publishing
 pub mod Outcome
 pub mod Combined
 pub mod Memory
+pub mod Status
+pub mod Placing
 pub mod Run
 pub mod DeskSteps
 pub mod World

@@ -237,6 +237,23 @@ told_from schema old (event ∷ events) (answer ∷ answers) =
 abbrev pub world_told : List Shape → List Event → List Answer → World
 world_told schema events answers = told_from schema world_begun events answers
 
+-- ---- what subscriptions begin with
+
+-- the tables, without rows, that the event's new subscription begins with, if the answer has one
+abbrev pub tables_asked : List Shape → Event → Answer → List tables.TableState
+tables_asked schema (event.Subscribe start) (Ok (reply.Subscriber s link)) =
+    empty_tables schema ∷ []
+tables_asked schema (event.SubscribeBare start) (Ok (reply.Subscriber s link)) =
+    bare_tables schema ∷ []
+tables_asked schema event answer = []
+
+-- those of all these events, in order
+abbrev pub all_tables_asked : List Shape → List Event → List Answer → List tables.TableState
+all_tables_asked schema [] answers = []
+all_tables_asked schema (event ∷ events) [] = []
+all_tables_asked schema (event ∷ events) (answer ∷ answers) =
+    tables_asked schema event answer ++ all_tables_asked schema events answers
+
 -- ---- what the broker has
 
 -- the items of two lists pair, one by one

@@ -5,12 +5,14 @@
 //! at the broker.
 
 ghost use Rattle.std.specs.Prelude.{◌≡◌, ◌++◌, ℕ, true, List, Some, None, length, map, slice_get};
+ghost use Rattle.std.specs.Prelude.{Err, Ok, Result};
 ghost use Rattle.cs_apply.specs.declared.conflict.Conflict.{Conflict};
 ghost use Rattle.cs_model.specs.Bytes.{AreBytes};
 ghost use Rattle.cs_model.specs.declared.shape.Shape.{Shape};
 ghost use Rattle.cs_parse.specs.Progress.{Took};
 ghost use Rattle.rb_core.specs.declared.event.Event.{Event};
 ghost use Rattle.rb_core.specs.declared.event.Event.TheVariants as event;
+ghost use Rattle.rb_core.specs.declared.placing.PlacingRefusal.{PlacingRefusal};
 ghost use Rattle.rb_core.specs.declared.publisher.PublisherState.{PublisherState};
 ghost use Rattle.rb_core.specs.declared.reply.BrokerRefusal.TheVariants as refusal;
 ghost use Rattle.rb_core.specs.declared.reply.Reply.{Reply};
@@ -22,10 +24,11 @@ ghost use Rattle.rb_core.specs.Moves.{Leads, HasRun, StaysClosed, items_of, IsFr
 ghost use Rattle.rb_sequence.specs.Items.{own_of};
 ghost use Rattle.rb_core.specs.Moves.{AreAllOf, IsSending};
 ghost use Rattle.rb_core.specs.Outcome.{outcome, delivery_of};
-ghost use Rattle.rb_core.specs.Run.{Answer, IsRunOf, RunsOn};
+ghost use Rattle.rb_core.specs.Placing.{placing_replies, placing_events, placing};
+ghost use Rattle.rb_core.specs.Run.{Answer, IsRunOf, Run, RunsOn};
 ghost use Rattle.rb_core.specs.State.{State, IsWorld, AreTablesBegun, bare_tables, empty_world};
 ghost use Rattle.rb_core.specs.Texts.{FeedsByText, EndsByText};
-ghost use Rattle.rb_core.specs.Told.{Paired, world_told, IsToldBy};
+ghost use Rattle.rb_core.specs.Told.{Paired, all_tables_asked, world_told, IsToldBy};
 ghost use Rattle.rb_core.specs.World.{Sender, Subscriber, World, world_begun, endpoint_of};
 ghost use Rattle.rb_desk.specs.declared.delivery.Delivery.{Delivery};
 ghost use Rattle.rb_desk.specs.Limits.{Limits};
@@ -58,6 +61,26 @@ pub fn events_keep_worlds()
     calls_keep_limits();
     calls_keep_pictures();
     calls_show_in_outline();
+}
+
+/// Placing a whole changeset preserves the invariant of a world.
+pub fn placings_keep_worlds()
+    ensures { (old : State) (p : ℕ) (text : List ℕ) (answer : Result ℕ PlacingRefusal) (new : State)
+        → IsWorld old → placing old p text ≡ (answer, new) → IsWorld new }
+{
+    events_keep_worlds();
+}
+
+/// Placing a whole changeset is the run of its events. A refused placing leaves the world that the
+/// reset of the publisher's stream leaves.
+pub fn placings_are_runs()
+    ensures placed { (old : State) (p : ℕ) (text : List ℕ) (number : ℕ) (new : State)
+        → IsWorld old → placing old p text ≡ (Ok number, new) → (own : ℕ)
+        × Run old (placing_events p text) (placing_replies own number) new }
+    ensures refused { (old : State) (p : ℕ) (text : List ℕ) (why : PlacingRefusal) (new : State)
+        → placing old p text ≡ (Err why, new) → new ≡ (outcome old (event.Reset p)).1 }
+{
+    events_keep_worlds();
 }
 
 /// What `Feed` and `End` reply, for every text that the stream may have taken. `Feed` reports the
@@ -216,6 +239,15 @@ pub fn bodies_are_changesets()
     reading_is_spelling();
 }
 
+/// Whatever is answered, the tables that the subscriptions began with are those asked for, in
+/// order. They are without rows. All of the schema are kept where the event was `Subscribe`, none
+/// where it was `SubscribeBare`.
+pub fn subscriptions_begin_as_asked()
+    ensures { (schema : List Shape) (events : List Event) (answers : List Answer)
+        → map (λ q. q.base) (world_told schema events answers).subscribers
+        ≡ all_tables_asked schema events answers }
+{}
+
 /// At any time of any run, each subscription has an endpoint in the broker. Where the changesets
 /// that the subscription accepted apply singly, without conflict, to the tables that it began with,
 /// the endpoint's tables are what one thread gets that applies them so. It began with tables of the
@@ -287,6 +319,7 @@ pub fn runs_keep_the_headline()
     sendings_come_once_in_order();
     nothing_after_close();
     tables_apply_singly();
+    subscriptions_begin_as_asked();
     tables_are_of_batches();
 }
 

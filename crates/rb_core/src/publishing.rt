@@ -4,7 +4,7 @@ ghost use Rattle.std.specs.Prelude.{◌≡◌, Some, length, slice_get, nat_le, 
 ghost use Rattle.std.specs.Prelude.{IsSome, IsSomeAnd};
 ghost use Rattle.cs_parse.specs.End.{admitted_answer, left_by};
 ghost use Rattle.cs_parse.specs.Progress.{answer_at_end};
-ghost use Rattle.rb_core.specs.Outcome.{end_reply};
+ghost use Rattle.rb_core.specs.Outcome.{end_reply, fault_refusal};
 ghost use Rattle.rb_core.specs.{Memory.{MayRunOut}, State.{AdmitsBody, AdmitsStaged, IsWorld}};
 ghost use Rattle.rb_core.specs.Outcome as outcome;
 ghost use Rattle.rb_core.specs.declared.event.Event.TheVariants as event;
@@ -160,9 +160,9 @@ impl Parts {
     }
 }
 
-// The item of what a publisher staged. The schema admits it, so sections of one name have one
-// shape.
-fn item_of(schema: &Schema, publisher: u64, own: u64, staged: Staged) -> Item
+/// The item of what a publisher staged. The schema admits it, so sections of one name have one
+/// shape.
+pub(crate) fn item_of(schema: &Schema, publisher: u64, own: u64, staged: Staged) -> Item
     requires { AdmitsBody schema.now staged.body }
     ensures { result ≡ record {
       publisher = publisher;
@@ -177,8 +177,12 @@ fn item_of(schema: &Schema, publisher: u64, own: u64, staged: Staged) -> Item
     Item::new(publisher, own, staged.origin, staged.body)
 }
 
-// the changeset that a stream ends with, if the schema admits it
-fn end_of(alloc: Global, stream: &mut PieceParser, schema: &Schema) -> Result<Changeset, EndError>
+/// The changeset that a stream ends with, if the schema admits it.
+pub(crate) fn end_of(
+    alloc: Global,
+    stream: &mut PieceParser,
+    schema: &Schema,
+) -> Result<Changeset, EndError>
     ensures answer { result ≡ admitted_answer schema.now (answer_at_end stream.old) }
     ensures left { stream.new ≡ left_by result stream.old }
 {
@@ -191,11 +195,16 @@ fn reply_for(error: EndError) -> Reply
 {
     match error {
         EndError::Fault(fault) => Reply::Fault(fault),
-        EndError::Refused(SectionFault::UnknownTable(i)) => {
-            Reply::Refused(BrokerRefusal::UnknownTable(i as u64))
-        }
-        EndError::Refused(SectionFault::ShapeDiffers(i)) => {
-            Reply::Refused(BrokerRefusal::ShapeDiffers(i as u64))
-        }
+        EndError::Refused(fault) => Reply::Refused(section_refusal(fault)),
+    }
+}
+
+/// The refusal for a section that the schema refuses.
+pub(crate) fn section_refusal(fault: SectionFault) -> BrokerRefusal
+    ensures { result ≡ fault_refusal fault }
+{
+    match fault {
+        SectionFault::UnknownTable(i) => BrokerRefusal::UnknownTable(i as u64),
+        SectionFault::ShapeDiffers(i) => BrokerRefusal::ShapeDiffers(i as u64),
     }
 }

@@ -8,8 +8,8 @@ ghost use Rattle.rb_core.specs.Moves.{HasRun, StaysClosed, items_of};
 ghost use Rattle.rb_sequence.specs.Items.{own_of};
 ghost use Rattle.rb_core.specs.Moves.{AreAllOf, IsFront, IsSending};
 ghost use Rattle.rb_core.specs.Run.{FeedsBytes, Run, RunsOutWhereItMay};
-ghost use Rattle.rb_core.specs.State.{AreTablesBegun, empty_world};
-ghost use Rattle.rb_core.specs.Told.{Paired, world_told};
+ghost use Rattle.rb_core.specs.State.{empty_world};
+ghost use Rattle.rb_core.specs.Told.{Paired, all_tables_asked, world_told};
 ghost use Rattle.rb_core.specs.World.{Sender, Subscriber, endpoint_of};
 ghost use Rattle.rb_sequence.specs.Entry.{Entry};
 ghost use Rattle.rb_subscriber.specs.Accept.{HasSingleTables};
@@ -88,10 +88,11 @@ pub fn run(
         → slice_get (world_told schema events.now r.1.items).subscribers s ≡ Some subscriber
         → (end : Endpoint) × (slice_get r.0.endpoints s ≡ Some end)
         × HasSingleTables subscriber.base subscriber.accepted end.tables) }
-    // It began with tables of the schema without rows, all of them kept or none.
-    ensures begun { IfOk result (λ r. (s : ℕ) (subscriber : Subscriber)
-        → slice_get (world_told schema events.now r.1.items).subscribers s ≡ Some subscriber
-        → AreTablesBegun schema subscriber.base) }
+    // The tables that the subscriptions began with are those asked for, in order: without rows, all
+    // of the schema kept where it was `Subscribe`, none where it was `SubscribeBare`.
+    ensures begun { IfOk result (λ r.
+        map (λ q. q.base) (world_told schema events.now r.1.items).subscribers
+        ≡ all_tables_asked schema events.now r.1.items) }
     // Whether or not it applies singly: the batches that a subscription accepted are its accepted
     // entries, in order, and the tables of its endpoint are what the groups of the batches leave.
     ensures batches { IfOk result (λ r. (s : ℕ) (subscriber : Subscriber)

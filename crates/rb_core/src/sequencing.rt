@@ -4,6 +4,7 @@ ghost use Rattle.std.specs.Prelude.{◌≡◌, ◌<◌, None, IfOk, OnErr, OnOk,
 ghost use Rattle.std.specs.Option.{option_copied};
 ghost use Rattle.rb_core.specs.Outcome.{hand_of, rest_of};
 ghost use Rattle.rb_core.specs.Memory.{MayRunOut};
+ghost use Rattle.rb_core.specs.State.{how_many_wait};
 ghost use Rattle.rb_core.specs.Outcome as outcome;
 ghost use Rattle.rb_core.specs.declared.event.Event.TheVariants as event;
 
@@ -39,6 +40,17 @@ impl Parts {
         Ok(Reply::Placed(number))
     }
 
+    /// How many changesets are sent and not placed: the item in hand and the intake.
+    pub(crate) fn left(&self) -> u64
+        ensures { result ≡ how_many_wait self.now }
+    {
+        let in_hand = match &self.hand {
+            None => 0,
+            Some(_) => 1,
+        };
+        in_hand + self.intake.len() as u64
+    }
+
     // the item that a turn places next
     fn next_item(&self) -> Option<&Item>
         ensures { option_copied result ≡ hand_of self.now.hand self.now.intake }
@@ -66,9 +78,9 @@ impl Parts {
     }
 }
 
-// Makes room for one more entry. The array grows by a quarter, since one that doubles would be half
-// empty, and entries take most of a broker's memory.
-fn make_room(sequence: &mut Vec<Entry>) -> Result<(), AllocError>
+/// Makes room for one more entry. The array grows by a quarter, since one that doubles would be
+/// half empty, and entries take most of a broker's memory.
+pub(crate) fn make_room(sequence: &mut Vec<Entry>) -> Result<(), AllocError>
     ensures entries { sequence.new.items ≡ sequence.old.items }
     ensures room { OnOk result (vec_len sequence.new < vec_capacity sequence.new) }
 {

@@ -8,13 +8,17 @@ ghost use Rattle.std.specs.FinMap as map;
 ghost use Rattle.cs_apply.specs.Seen.{listed};
 ghost use Rattle.rb_core.specs.Memory.{MayRunOut};
 ghost use Rattle.rb_core.specs.Outcome.{outcome, entry_of};
+ghost use Rattle.rb_core.specs.Placing.{AnswersPlacing};
 ghost use Rattle.rb_core.specs.State.{empty_world, IsWorld, how_many_wait};
+ghost use Rattle.rb_core.specs.Status.{subscription_status};
 ghost use Rattle.rb_subscriber.specs.Accept.{IsAdmitted};
 
 use crate::event::Event;
-use crate::laws::events_keep_worlds;
+use crate::laws::{events_keep_worlds, placings_keep_worlds};
 use crate::parts::Parts;
+use crate::placing::PlacingError;
 use crate::reply::{BrokerRefusal, Reply};
+use crate::status::SubscriptionStatus;
 use cs_apply::Tables;
 use cs_model::{Row, RowKey, Schema};
 use rb_desk::Config;
@@ -78,6 +82,17 @@ impl World {
         self.parts.moved_by(alloc, event)
     }
 
+    /// Places a whole changeset in one call, and returns its number. `text` is its bytes. The call
+    /// does what the events `Reset`, `Feed`, `End`, `Send` and `Turn` do one after another, or only
+    /// `Reset` where one of them is refused, or where another changeset waits to be placed. If
+    /// memory runs out, it changes nothing.
+    pub fn place(&mut self, alloc: Global, publisher: u64, text: &[u8]) -> Result<u64, PlacingError>
+        ensures { AnswersPlacing result self.old publisher text.now self.new }
+    {
+        placings_keep_worlds();
+        self.parts.place(alloc, publisher, text)
+    }
+
     /// The schema of its tables.
     pub(crate) fn schema(&self) -> &Schema
         ensures { result.now ≡ self.now.schema }
@@ -119,6 +134,14 @@ impl World {
         Some(end.cursor())
     }
 
+    /// What is known of a subscription: how far it has come, and what waits for it. Changes nothing,
+    /// and does not allocate. Returns `None` if there is no such subscription.
+    pub fn status(&self, subscription: u64) -> Option<SubscriptionStatus>
+        ensures { result ≡ subscription_status self.now subscription }
+    {
+        self.parts.status(subscription)
+    }
+
     /// The tables of a subscription. Returns `None` if there is no such subscription.
     pub fn tables(&self, subscription: u64) -> Option<&Tables>
         ensures { option_copied result
@@ -153,11 +176,7 @@ impl World {
     pub fn left(&self) -> u64
         ensures { result ≡ how_many_wait self.now }
     {
-        let in_hand = match &self.parts.hand {
-            None => 0,
-            Some(_) => 1,
-        };
-        in_hand + self.parts.intake.len() as u64
+        self.parts.left()
     }
 }
 

@@ -17,7 +17,7 @@ ghost use Rattle.rb_script.specs.{Output.{answers, first_place, written}, Refusi
 ghost use Rattle.rb_script.specs.Script.{IsLine, ended_lines, lines_answers, lines_events};
 ghost use Rattle.rb_script.specs.Script.{lines_of, lines_replies, stage_after, whole_lines};
 
-use rb_core::laws::{accepted_is_gapless, runs_keep_the_headline};
+use rb_core::laws::{accepted_is_gapless, runs_keep_the_headline, subscriptions_begin_as_asked};
 
 /// The output for a script is the answers to its lines, one after another. The last line has no
 /// line end.
@@ -64,7 +64,9 @@ pub fn script_subscriptions_begin_empty()
         → slice_get (world_told (schema_of_script lines) (lines_events lines)
         (lines_replies config (Tables []) lines)).subscribers s ≡ Some subscriber
         → subscriber.base ≡ empty_tables (schema_of_script lines) }
-{}
+{
+    subscriptions_begin_as_asked();
+}
 
 /// The headline of a script, whatever its lines are and whether or not the last one has its end.
 /// What is written is the answers to its lines, and these keep the headline: under the schema that

@@ -1,25 +1,21 @@
 -- Every subscription of a script begins with empty tables: no line makes one that keeps no rows.
 use Rattle.std.proofs.Common.{◌≡◌, ℕ, Bool, true, false, cond, ltb, List, [], ◌∷◌, length, Option, Some, None, Ok}
-use Rattle.std.proofs.Common.{Err, refl, ap, ◌∙◌, codes, option_map, arith}
-use Rattle.std.specs.Prelude.{slice_get, ◌-◌}
+use Rattle.std.proofs.Common.{refl, ap, map, codes, option_map, arith}
+use Rattle.std.specs.Prelude.{slice_get}
 use Rattle.std.specs.List.{AllByRecursion}
-use Rattle.cs_model.proofs.CallerLemmas.{all_push}
+use Rattle.cs_apply.specs.State.{TableState}
+use Rattle.cs_model.proofs.CallerLemmas.{all_append}
 use Rattle.cs_model.specs.declared.shape.Shape.{Shape}
 use Rattle.cs_model.specs.Schema.{same_bytes}
-use Rattle.rb_desk.specs.declared.delivery.Delivery.{Delivery}
-use Rattle.rb_sequence.specs.Entry.{Entry}
-use Rattle.rb_sequence.specs.Item.{Item}
-use Rattle.rb_core.proofs.headline.Moving.{all_get, all_set}
+use Rattle.rb_core.proofs.headline.Moving.{all_get}
+use Rattle.rb_core.proofs.whole_runs.ToldLaws.{mapped_in}
 use Rattle.rb_core.specs.declared.event.Event.{Event}
 use Rattle.rb_core.specs.declared.event.Event.TheVariants as event
-use Rattle.rb_core.specs.declared.publisher.Staged.{Staged}
-use Rattle.rb_core.specs.declared.reply.Reply.{Reply}
 use Rattle.rb_core.specs.declared.reply.Reply.TheVariants as reply
 use Rattle.rb_core.specs.Run.{Answer}
 use Rattle.rb_core.specs.State.{empty_tables}
-use Rattle.rb_core.specs.Told as say
-use Rattle.rb_core.specs.Told.{told, told_by, told_from, world_told}
-use Rattle.rb_core.specs.World.{Sender, Subscriber, World, subscriber_begun, world_begun}
+use Rattle.rb_core.specs.Told.{all_tables_asked, tables_asked, world_told}
+use Rattle.rb_core.specs.World.{Subscriber}
 use Rattle.rb_script.specs.declared.forms.Form.{Form}
 use Rattle.rb_script.specs.declared.forms.Form.TheVariants as form
 use Rattle.rb_script.specs.Words.{words_of, number_in_word, bytes_of}
@@ -29,129 +25,31 @@ use Rattle.rb_script.specs.Forms.{form_of_words, form_of}
 use Rattle.rb_script.specs.Lines.{most_of_line}
 use Rattle.rb_script.specs.Script.{event_in, event_of, with_event, lines_events}
 
--- ---- what is told
+-- ---- what is asked for
 
-abbrev WithEmpty : List Shape → Subscriber → Type 0
-WithEmpty schema q = q.base ≡ empty_tables schema
-
-abbrev AllWithEmpty : List Shape → World → Type 0
-AllWithEmpty schema world = AllByRecursion (WithEmpty schema) world.subscribers
+abbrev AreEmpty : List Shape → TableState → Type 0
+AreEmpty schema begun = begun ≡ empty_tables schema
 
 -- the event makes no subscription that keeps no rows
 abbrev MakesNoBare : Event → Type 0
 MakesNoBare (event.SubscribeBare start) = ⊥
 MakesNoBare other = Unit {0}
 
-sender_begin : (schema : List Shape) (old : World) (p : ℕ) (change : Sender → Sender) (found : Option Sender)
-    → AllWithEmpty schema old → AllWithEmpty schema (say.sender_set old p change found)
-sender_begin schema old p change None h = h
-sender_begin schema old p change (Some sender) h = h
+asked_empty : (schema : List Shape) (event : Event) (answer : Answer) → MakesNoBare event
+    → AllByRecursion (AreEmpty schema) (tables_asked schema event answer)
+asked_empty schema (event.Subscribe start) (Ok (reply.Subscriber s link)) keeps = (refl, tt)
+asked_empty schema (event.SubscribeBare start) answer keeps = absurd keeps
+asked_empty schema event answer keeps = tt
 
-staged_begin : (schema : List Shape) (old : World) (p own : ℕ) (sender : Sender) (staged : Option Staged)
-    → AllWithEmpty schema old → AllWithEmpty schema (say.sent_staged old p own sender staged)
-staged_begin schema old p own sender None h = h
-staged_begin schema old p own sender (Some staged) h = h
-
-sent_begin : (schema : List Shape) (old : World) (p own : ℕ) (found : Option Sender) → AllWithEmpty schema old
-    → AllWithEmpty schema (say.sent_of old p own found)
-sent_begin schema old p own None h = h
-sent_begin schema old p own (Some sender) h = staged_begin schema old p own sender sender.staged h
-
-entry_begin : (schema : List Shape) (old : World) (p n : ℕ) (sender : Sender) (entry : Option Entry)
-    → AllWithEmpty schema old → AllWithEmpty schema (say.withdrawn_entry old p n sender entry)
-entry_begin schema old p n sender None h = h
-entry_begin schema old p n sender (Some entry) h = h
-
-withdrawn_begin : (schema : List Shape) (old : World) (p n : ℕ) (found : Option Sender) → AllWithEmpty schema old
-    → AllWithEmpty schema (say.withdrawn_of old p n found)
-withdrawn_begin schema old p n None h = h
-withdrawn_begin schema old p n (Some sender) h = entry_begin schema old p n sender (slice_get old.sequence (n - 1)) h
-
-pulled_begin : (schema : List Shape) (old : World) (hand : Option Item) (intake : List Item)
-    → AllWithEmpty schema old → AllWithEmpty schema (say.pulled_by old hand intake)
-pulled_begin schema old (Some item) intake h = h
-pulled_begin schema old None [] h = h
-pulled_begin schema old None (item ∷ rest) h = h
-
-placed_begin : (schema : List Shape) (old : World) (n : ℕ) (hand : Option Item) → AllWithEmpty schema old
-    → AllWithEmpty schema (say.placed_from old n hand)
-placed_begin schema old n None h = h
-placed_begin schema old n (Some item) h = h
-
-changed_begin : (schema : List Shape) (old : World) (s : ℕ) (change : Subscriber → Subscriber)
-    (found : Option Subscriber) → slice_get old.subscribers s ≡ found
-    → ((q : Subscriber) → (change q).base ≡ q.base) → AllWithEmpty schema old
-    → AllWithEmpty schema (say.subscriber_set old s change found)
-changed_begin schema old s change None is same h = h
-changed_begin schema old s change (Some q) is same h =
-    all_set (WithEmpty schema) old.subscribers s (change q) h
-    (same q ∙ all_get (WithEmpty schema) old.subscribers s q h is)
-
-accepted_base : (sequence : List Entry) (found : Option Delivery) (q : Subscriber)
-    → (say.accepted_told sequence found q).base ≡ q.base
-accepted_base sequence None q = refl
-accepted_base sequence (Some delivery) q = refl
-
-crashed_base : (sequence : List Entry) (d : ℕ) (kept : Bool) (q : Subscriber)
-    → (say.crashed sequence d kept q).base ≡ q.base
-crashed_base sequence d true q = accepted_base sequence (say.delivery_told d q) q
-crashed_base sequence d false q = refl
-
-told_begin : (schema : List Shape) (old : World) (event : Event) (given : Reply) → MakesNoBare event
-    → AllWithEmpty schema old → AllWithEmpty schema (told schema old event given)
-told_begin schema old event.Publisher (reply.Publisher p) keeps h = h
-told_begin schema old (event.Feed p bytes) reply.Fed keeps h =
-    sender_begin schema old p (say.fed bytes) (slice_get old.senders p) h
-told_begin schema old (event.Feed p bytes) (reply.Fault fault) keeps h =
-    sender_begin schema old p (say.fed bytes) (slice_get old.senders p) h
-told_begin schema old (event.Reset p) reply.Reset keeps h =
-    sender_begin schema old p say.reset (slice_get old.senders p) h
-told_begin schema old (event.End p) reply.Staged keeps h =
-    sender_begin schema old p say.ended (slice_get old.senders p) h
-told_begin schema old (event.Send p) (reply.Sent own) keeps h =
-    sent_begin schema old p own (slice_get old.senders p) h
-told_begin schema old (event.Withdraw p n) reply.Staged keeps h =
-    withdrawn_begin schema old p n (slice_get old.senders p) h
-told_begin schema old event.Turn (reply.Placed n) keeps h =
-    placed_begin schema (say.pulled old) n (say.pulled old).hand (pulled_begin schema old old.hand old.intake h)
-told_begin schema old event.Turn (reply.Refused why) keeps h = pulled_begin schema old old.hand old.intake h
-told_begin schema old event.Close (reply.Closed last) keeps h = h
-told_begin schema old (event.Subscribe start) (reply.Subscriber s link) keeps h =
-    all_push (WithEmpty schema) old.subscribers (subscriber_begun start link (empty_tables schema)) h refl
-told_begin schema old (event.SubscribeBare start) given keeps h = absurd keeps
-told_begin schema old (event.Take s now) (reply.Delivery delivery) keeps h =
-    changed_begin schema old delivery.sub (say.delivered delivery) (slice_get old.subscribers delivery.sub) refl
-    (λ q. refl) h
-told_begin schema old (event.TakeAny now) (reply.Delivery delivery) keeps h =
-    changed_begin schema old delivery.sub (say.delivered delivery) (slice_get old.subscribers delivery.sub) refl
-    (λ q. refl) h
-told_begin schema old (event.Accept d) (reply.Accepted s last) keeps h =
-    changed_begin schema old s (say.accepted old.sequence d) (slice_get old.subscribers s) refl
-    (λ q. accepted_base old.sequence (say.delivery_told d q) q) h
-told_begin schema old (event.Reconnect s cursor) (reply.Link link) keeps h =
-    changed_begin schema old s (say.reconnected link) (slice_get old.subscribers s) refl (λ q. refl) h
-told_begin schema old (event.Unsubscribe s) reply.Unsubscribed keeps h =
-    changed_begin schema old s say.unsubscribed (slice_get old.subscribers s) refl (λ q. refl) h
-told_begin schema old (event.Crash d kept) (reply.Crashed s last) keeps h =
-    changed_begin schema old s (say.crashed old.sequence d kept) (slice_get old.subscribers s) refl
-    (crashed_base old.sequence d kept) h
-told_begin schema old (event.Resume s) (reply.Link link) keeps h =
-    changed_begin schema old s (say.resumed link) (slice_get old.subscribers s) refl (λ q. refl) h
-told_begin schema old event given keeps h = h
-
-answer_begin : (schema : List Shape) (old : World) (event : Event) (answer : Answer) → MakesNoBare event
-    → AllWithEmpty schema old → AllWithEmpty schema (told_by schema old event answer)
-answer_begin schema old event (Ok given) keeps h = told_begin schema old event given keeps h
-answer_begin schema old event (Err e) keeps h = h
-
-all_begin : (schema : List Shape) (old : World) (events : List Event) (answers : List Answer)
-    → AllByRecursion MakesNoBare events → AllWithEmpty schema old
-    → AllWithEmpty schema (told_from schema old events answers)
-all_begin schema old [] answers keeps h = h
-all_begin schema old (event ∷ events) [] keeps h = h
-all_begin schema old (event ∷ events) (answer ∷ answers) keeps h =
-    all_begin schema (told_by schema old event answer) events answers keeps.1
-    (answer_begin schema old event answer keeps.0 h)
+all_asked_empty : (schema : List Shape) (events : List Event) (answers : List Answer)
+    → AllByRecursion MakesNoBare events
+    → AllByRecursion (AreEmpty schema) (all_tables_asked schema events answers)
+all_asked_empty schema [] answers keeps = tt
+all_asked_empty schema (event ∷ events) [] keeps = tt
+all_asked_empty schema (event ∷ events) (answer ∷ answers) keeps =
+    all_append (AreEmpty schema) (tables_asked schema event answer)
+    (all_tables_asked schema events answers) (asked_empty schema event answer keeps.0)
+    (all_asked_empty schema events answers keeps.1)
 
 -- ---- the forms of lines
 
@@ -249,10 +147,17 @@ lines_none_bare [] = tt
 lines_none_bare (line ∷ lines) =
     none_bare_with_one (event_of line) (lines_events lines) (line_none_bare line) (lines_none_bare lines)
 
-pub script_begins_empty : (schema : List Shape) (lines : List (List ℕ)) (answers : List Answer) (s : ℕ)
-    (subscriber : Subscriber)
+-- ---- the subscriptions
+
+-- where the tables that subscriptions begin with are those asked for
+pub script_begins_empty : (schema : List Shape) (lines : List (List ℕ)) (answers : List Answer)
+    → map (λ q. q.base) (world_told schema (lines_events lines) answers).subscribers
+    ≡ all_tables_asked schema (lines_events lines) answers → (s : ℕ) (subscriber : Subscriber)
     → slice_get (world_told schema (lines_events lines) answers).subscribers s ≡ Some subscriber
     → subscriber.base ≡ empty_tables schema
-script_begins_empty schema lines answers s subscriber found =
-    all_get (WithEmpty schema) (world_told schema (lines_events lines) answers).subscribers s subscriber
-    (all_begin schema world_begun (lines_events lines) answers (lines_none_bare lines) tt) found
+script_begins_empty schema lines answers asked s subscriber found =
+    let begun = all_tables_asked schema (lines_events lines) answers in
+    all_get (AreEmpty schema) begun s subscriber.base
+    (all_asked_empty schema (lines_events lines) answers (lines_none_bare lines))
+    (mapped_in (λ q. q.base) (world_told schema (lines_events lines) answers).subscribers begun
+    asked s subscriber found)

@@ -9,8 +9,7 @@ returns c = λ limits schema events answers new run. record {
   tables = λ s subscriber found.
       let is = c.tables_apply_singly.ensures limits schema events answers new s subscriber run found in
       (is.0, is.1, is.2);
-  begun = λ s subscriber found.
-      (c.tables_apply_singly.ensures limits schema events answers new s subscriber run found).3;
+  begun = c.subscriptions_begin_as_asked.ensures schema events answers;
   batches = λ s subscriber found.
       c.tables_are_of_batches.ensures limits schema events answers new s subscriber run found;
   in_order = λ p sender found.
