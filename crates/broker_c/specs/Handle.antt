@@ -15,7 +15,7 @@ IsShut b = (b.seal.full ≡ false) × (b.is_busy ≡ false)
 abbrev pub IsBusy : Handle → Type 0
 IsBusy b = (b.seal.full ≡ false) × (b.is_busy ≡ true)
 
--- the handle is shut, or stays as it was if it is busy
+-- the handle is shut, or stays as it was if another call is in it
 abbrev pub Shuts : Bool → Handle → Handle → Type 0
 Shuts false before after = IsShut after
 Shuts true before after = after ≡ before

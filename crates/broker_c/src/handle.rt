@@ -23,6 +23,7 @@ pub struct Handle {
     seal: Seal,
     why: Why,
     ghost tied: { is_open ≡ seal.full },
+    ghost apart: { is_open ≡ true → is_busy ≡ false },
 }
 
 impl Handle {
@@ -69,16 +70,17 @@ impl Handle {
         ensures busy { self.new.is_busy ≡ true }
         ensures why { self.new.why ≡ self.old.why }
     {
-        self.is_open = false;
         self.is_busy = true;
+        self.is_open = false;
         mem::replace(&mut self.seal, Seal::none(alloc))
             .into_parts()
             .into_box()
     }
 
-    /// Puts a world into a handle that holds none, with these numbers.
+    /// Puts the world back, with these numbers.
     pub fn put(&mut self, world: Box<World>, why: Why)
-        requires { self.old.seal.full ≡ false }
+        requires full { self.old.seal.full ≡ false }
+        requires busy { self.old.is_busy ≡ true }
         ensures full { self.new.seal.full ≡ true }
         ensures held { self.new.seal.held ≡ box_value world }
         ensures busy { self.new.is_busy ≡ false }

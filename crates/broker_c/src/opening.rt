@@ -1,6 +1,6 @@
 //! The calls that give out a handle, let go of its world, free it, and tell its numbers.
 
-ghost use Rattle.std.specs.Prelude.{◌≡◌, [], IfErr, IfOk, None, false};
+ghost use Rattle.std.specs.Prelude.{◌≡◌, ◌&&◌, [], IfErr, IfOk, None, false, not};
 ghost use Rattle.std.specs.Box.{box_value};
 ghost use Rattle.cs_model.specs.Schema.{tables_refusal};
 ghost use Rattle.broker_c.specs.Handle.{Shuts};
@@ -106,14 +106,13 @@ pub extern "C" fn broker_open(
 /// from then on. A handle that is shut stays as it is, and so does one that another call is in.
 #[unsafe(no_mangle)]
 pub extern "C" fn broker_shut(alloc: Global, broker: &mut Handle)
-    ensures shut { Shuts broker.old.is_busy broker.old broker.new }
+    ensures shut { Shuts (not broker.old.seal.full && broker.old.is_busy) broker.old broker.new }
     ensures why { broker.new.why ≡ broker.old.why }
 {
-    if broker.is_busy() {
-        return;
-    }
     if broker.is_open() {
         drop(broker.take(alloc));
+    } else if broker.is_busy() {
+        return;
     }
     broker.shut();
 }

@@ -12,7 +12,7 @@ use crate::serving::Taken;
 use crate::subscriptions::{
     broker_accept, broker_ack, broker_subscribe, broker_subscribe_bare, broker_take,
 };
-use crate::texts::{Standing, broker_combined, broker_status, broker_text};
+use crate::texts::{Standing, broker_combined, broker_front, broker_status, broker_text};
 use std::alloc::{AllocError, Global};
 use std::process::Abort;
 use std::test::*;
@@ -148,6 +148,23 @@ fn says(rt: &impl Abort) {
     assert!(rt; words == *b"no entry has this number\0");
 }
 
+// a call that another call meets in the handle, and one on a handle that is shut
+fn is_busy_or_shut(rt: &impl Abort, alloc: Global, broker: &mut Handle) {
+    let (mut front, mut publisher, mut entry) = (7, 7, 7);
+    let why = broker.why();
+    let world = broker.take(alloc);
+    assert_eq!(rt; broker_front(alloc, broker, &mut front), -6);
+    assert_eq!(rt; broker_publisher(alloc, broker, &mut publisher), -6);
+    assert_eq!(rt; broker_place(alloc, broker, 0, &INSERTED, &mut entry), -6);
+    broker_shut(alloc, broker);
+    broker.put(world, why);
+    assert_eq!(rt; (broker_front(alloc, broker, &mut front), front), (0, 2));
+    broker_shut(alloc, broker);
+    assert_eq!(rt; broker_front(alloc, broker, &mut front), -1);
+    assert_eq!(rt; broker_place(alloc, broker, 0, &INSERTED, &mut entry), -1);
+    assert_eq!(rt; (front, publisher, entry), (2, 7, 7));
+}
+
 // what may go to another thread
 fn sent<T: Send>(value: T) -> T {
     value
@@ -171,6 +188,6 @@ fn a_changeset_goes_through(rt: HostRuntime) -> Result<(), Fail> {
     keeps_none(&rt, alloc, &mut broker);
     places_whole(&rt, alloc, &mut broker);
     says(&rt);
-    broker_shut(alloc, &mut broker);
+    is_busy_or_shut(&rt, alloc, &mut broker);
     Ok(())
 }
