@@ -344,6 +344,7 @@ static void run(void) {
     place(b, 1, faulty, 1, BROKER_FAULT, 1, BROKER_FAULT_TRUNCATED);
     status(b, 0);
     broker_shut(b);
+    expect(broker_turn(b, &last), BROKER_SHUT, "a turn of a shut handle");
     turn(b);
     why(b);
     rows(b);
