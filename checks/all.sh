@@ -53,6 +53,16 @@ check() {
     if [ -z "$why" ]; then echo "$name passed $took"; else echo "$name failed $took: $why"; bad=$((bad + 1)); fi
 }
 
+# The edits take the longest: they are tried beside the others.
+if $long; then
+    (
+        # shellcheck disable=SC2046,SC2012 # each crate is a word
+        check "git $RT" python3 checks/edits_together.py $(ls crates/*/on-demand.edits | cut -d / -f 2) >"$work/edits"
+        exit "$bad"
+    ) &
+    edits=$!
+fi
+
 # the sources
 check awk sh checks/names.sh
 check awk sh checks/files.sh
@@ -96,7 +106,8 @@ if $long; then
     export ONLY='^(appliers|histories::(publishing|deliveries|resumptions|brokers)|restarts|texts)'
     check 'gcc addr2line' sh refused/tests.sh rb_threads
     unset ONLY
-    # shellcheck disable=SC2046,SC2012 # each crate is a word
-    check "git $RT" python3 checks/edits_together.py $(ls crates/*/on-demand.edits | cut -d / -f 2)
+    wait "$edits" || bad=$((bad + 1))
+    count=$((count + 1))
+    cat "$work/edits"
 fi
 none_failed checks
