@@ -148,21 +148,26 @@ fn says(rt: &impl Abort) {
     assert!(rt; words == *b"no entry has this number\0");
 }
 
-// a call that another call meets in the handle, and one on a handle that is shut
-fn is_busy_or_shut(rt: &impl Abort, alloc: Global, broker: &mut Handle) {
+// a handle that is shut as soon as it is open
+fn is_shut(rt: &impl Abort, alloc: Global, broker: &mut Handle) {
+    let (mut publisher, mut entry) = (7, 7);
+    broker_shut(alloc, broker);
+    assert_eq!(rt; broker_publisher(alloc, broker, &mut publisher), -1);
+    assert_eq!(rt; broker_place(alloc, broker, 0, &INSERTED, &mut entry), -1);
+    assert_eq!(rt; (publisher, entry), (7, 7));
+}
+
+// a handle that another call is in
+fn is_busy(rt: &impl Abort, alloc: Global, broker: &mut Handle) {
     let (mut front, mut publisher, mut entry) = (7, 7, 7);
-    let why = broker.why();
+    assert!(rt; broker.is_open());
     let world = broker.take(alloc);
+    broker_shut(alloc, broker);
     assert_eq!(rt; broker_front(alloc, broker, &mut front), -6);
     assert_eq!(rt; broker_publisher(alloc, broker, &mut publisher), -6);
     assert_eq!(rt; broker_place(alloc, broker, 0, &INSERTED, &mut entry), -6);
-    broker_shut(alloc, broker);
-    broker.put(world, why);
-    assert_eq!(rt; (broker_front(alloc, broker, &mut front), front), (0, 2));
-    broker_shut(alloc, broker);
-    assert_eq!(rt; broker_front(alloc, broker, &mut front), -1);
-    assert_eq!(rt; broker_place(alloc, broker, 0, &INSERTED, &mut entry), -1);
-    assert_eq!(rt; (front, publisher, entry), (2, 7, 7));
+    assert_eq!(rt; (front, publisher, entry), (7, 7, 7));
+    drop(world);
 }
 
 // what may go to another thread
@@ -177,9 +182,13 @@ fn a_changeset_goes_through(rt: HostRuntime) -> Result<(), Fail> {
         name: b"t",
         key: &[1, 0],
     }];
-    let Ok(broker) = opened(alloc, &LIMITS, &tables) else {
+    let (Ok(broker), Ok(mut other)) = (
+        opened(alloc, &LIMITS, &tables),
+        opened(alloc, &LIMITS, &tables),
+    ) else {
         return Err(AllocError)?;
     };
+    is_shut(&rt, alloc, &mut other);
     let mut broker = sent(broker);
     publishes(&rt, alloc, &mut broker);
     delivers(&rt, alloc, &mut broker);
@@ -188,6 +197,6 @@ fn a_changeset_goes_through(rt: HostRuntime) -> Result<(), Fail> {
     keeps_none(&rt, alloc, &mut broker);
     places_whole(&rt, alloc, &mut broker);
     says(&rt);
-    is_busy_or_shut(&rt, alloc, &mut broker);
+    is_busy(&rt, alloc, &mut broker);
     Ok(())
 }
