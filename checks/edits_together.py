@@ -7,11 +7,14 @@ A function is proved by its own contract and those of what it calls, so an edit 
 from being proved. For each edit it prints `refused` and that function, or `STILL PROVED`, or that it can't be applied or
 checked. It takes a tenth of the time of checks/edits.sh, whose verdict, by the prover's own command, is the one that counts.
 The copy has what is built in this checkout, which the prover's command takes as long as it was built of the same sources.
-It needs the prover's command `rt`, or another one that the variable RT names. The status is 1 if an edit was not refused.
+It needs the prover's command `rt`, or another one that the variable RT names. JOBS says how many crates it goes over at once,
+2 where it isn't set. The status is 1 if an edit was not refused.
 """
 import collections
+import concurrent.futures
 import glob
 import os
+import queue
 import re
 import shutil
 import subprocess
@@ -68,7 +71,8 @@ def batches(edits):
 def unproved(crate):
     """The functions that aren't proved, apart from those that only call one, and faults of the sources. None if the check did not
     come to its end, which is no proof: it stops early where a crate below can't be built, for one."""
-    run = subprocess.run([os.environ.get('RT', 'rt'), 'check', '--allow-holes'], cwd=crate, capture_output=True, text=True)
+    command = [os.environ.get('RT', 'rt'), 'check', '--allow-holes', '--jobs', '1']
+    run = subprocess.run(command, cwd=crate, capture_output=True, text=True)
     lines = (run.stdout + run.stderr).split('\n')
     if not any(line.startswith('crate %s: modules loaded=' % os.path.basename(crate)) for line in lines):
         return None
@@ -102,38 +106,58 @@ def tried(crate, edits):
         return sum(tried(crate, [edit]) for edit in edits)
     refused = 0
     for edit, _, _, functions in edits:
-        found = sorted(functions & open_) or faults[:1]
+        found = sorted(functions & open_ if functions else open_) or faults[:1]
         refused += bool(found)
         print(name, edit, 'refused: ' + ', '.join(found) if found else 'STILL PROVED', flush=True)
     return refused
+
+
+def made_copy(folder):
+    """a clone of this checkout, with what is built in it"""
+    subprocess.run(['git', 'clone', '-q', TOP, folder], check=True)
+    for built in glob.glob(os.path.join(TOP, 'crates', '*', 'out')):
+        shutil.copytree(built, os.path.join(folder, 'crates', built.split(os.sep)[-2], 'out'), symlinks=True)
+    return folder
+
+
+def tried_all(copy, name):
+    """tries all edits of a crate, and returns how many there are and how many were refused"""
+    crate, edits, count = os.path.join(copy, 'crates', name), [], 0
+    for edit, text in edits_of(copy, name).items():
+        file, pairs = parts_of(text)
+        path = os.path.join(crate, file)
+        with open(path) as f:
+            found = placed(f.read(), pairs)
+        count += 1
+        if found is None:
+            print(name, edit, "CAN'T BE APPLIED", flush=True)
+        else:
+            edits.append((edit, path, *found))
+    return count, sum(tried(crate, some) for some in batches(edits))
 
 
 def main():
     if len(sys.argv) < 2:
         print('usage: python3 checks/edits_together.py NAME..', file=sys.stderr)
         sys.exit(2)
-    work = tempfile.mkdtemp()
-    count = refused = 0
+    work, copies = tempfile.mkdtemp(), queue.Queue()
+    many = min(len(sys.argv) - 1, int(os.environ.get('JOBS', '2')))
+
+    def answer(name):
+        copy = copies.get()
+        try:
+            return tried_all(copy, name)
+        finally:
+            copies.put(copy)
+
     try:
-        clone = os.path.join(work, 'clone')
-        subprocess.run(['git', 'clone', '-q', TOP, clone], check=True)
-        for built in glob.glob(os.path.join(TOP, 'crates', '*', 'out')):
-            shutil.copytree(built, os.path.join(clone, 'crates', built.split(os.sep)[-2], 'out'), symlinks=True)
-        for name in sys.argv[1:]:
-            crate, edits = os.path.join(clone, 'crates', name), []
-            for edit, text in edits_of(clone, name).items():
-                file, pairs = parts_of(text)
-                path = os.path.join(crate, file)
-                with open(path) as f:
-                    found = placed(f.read(), pairs)
-                count += 1
-                if found is None:
-                    print(name, edit, "CAN'T BE APPLIED", flush=True)
-                else:
-                    edits.append((edit, path, *found))
-            refused += sum(tried(crate, some) for some in batches(edits))
+        for number in range(many):
+            copies.put(made_copy(os.path.join(work, str(number))))
+        with concurrent.futures.ThreadPoolExecutor(many) as pool:
+            counts = list(pool.map(answer, sys.argv[1:]))
     finally:
         shutil.rmtree(work)
+    count, refused = (sum(some) for some in zip(*counts))
     if refused < count:
         sys.exit('edits_together.py: %d of %d edits were refused' % (refused, count))
 
