@@ -77,7 +77,12 @@ def unproved(crate):
     if not any(line.startswith('crate %s: modules loaded=' % os.path.basename(crate)) for line in lines):
         return None
     open_ = [line[3:].split(': ', 1) for line in lines if re.match(r'fn \S+: (not proved|no proof: expected)', line)]
-    return {name.split('::')[-1] for name, _ in open_}, [line for line in lines if re.match(r'(so far: )?src/\S+: error', line)]
+    names = set()
+    for name, _ in open_:
+        # a closure's name has those of the functions around it behind `fn`
+        parts = name.split('::')
+        names.update(parts[parts.index('fn') + 1:] if 'fn' in parts else parts[-1:])
+    return names, [line for line in lines if re.match(r'(so far: )?src/\S+: error', line)]
 
 
 def tried(crate, edits):
