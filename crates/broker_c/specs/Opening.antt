@@ -119,7 +119,7 @@ TellsWhy (negsuc zero) b was is = IsShut b × (is ≡ was)
 TellsWhy (negsuc (suc (suc (suc (suc (suc zero)))))) b was is = IsBusy b × (is ≡ was)
 TellsWhy (negsuc n) b was is = ⊥
 
--- What C hands to `broker_free`: a null pointer, or a handle that `broker_open` gave out and nothing
--- has freed. So a pointer that isn't null has a handle.
+-- What C hands to `broker_free`: a null pointer, or a handle that `broker_open` gave out and that
+-- nothing has freed. So a pointer that isn't null has a handle.
 abbrev pub IsHandleOrNull : Slot → Type 0
 IsHandleOrNull slot = InBlock slot.pointer → slot.full ≡ true

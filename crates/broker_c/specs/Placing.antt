@@ -14,7 +14,8 @@ entry_by (Err why) before = before
 
 -- The world behind the handle makes the placing. The result is its code, and the handle's numbers
 -- and the entry are the placing's.
-pub record PlacedWhole (result : ℤ) (publisher : ℕ) (text : List ℕ) (before after : Handle) (was is : ℕ)
+pub record PlacedWhole (result : ℤ) (publisher : ℕ) (text : List ℕ) (before after : Handle)
+    (was is : ℕ)
     : Type 0 where
   pub world : State
   pub answer : Result ℕ PlacingRefusal

@@ -136,7 +136,8 @@ IsStatusOf (negsuc n) (Some q) was is = ⊥
 
 abbrev pub ReadsStatus : ℤ → ℕ → Handle → Handle → Standing → Standing → Type 0
 ReadsStatus result s before after was is =
-    TellsOf result before after (λ z world. IsStatusOf z (subscription_status world s) was is) (is ≡ was)
+    TellsOf result before after (λ z world. IsStatusOf z (subscription_status world s) was is)
+    (is ≡ was)
 
 abbrev pub ReadsFront : ℤ → Handle → Handle → ℕ → ℕ → Type 0
 ReadsFront result before after was is =

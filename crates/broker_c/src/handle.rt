@@ -129,8 +129,8 @@ impl Handle {
         }
     }
 
-    /// Places a whole changeset. After a refusal the numbers are its. Returns `AllocError` if memory
-    /// runs out, and changes nothing then.
+    /// Places a whole changeset. After a refusal the numbers are its. Returns `AllocError` if
+    /// memory runs out, and changes nothing then.
     pub fn place(
         &mut self,
         alloc: Global,

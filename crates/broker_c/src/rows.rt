@@ -1,6 +1,6 @@
 //! The calls that tell rows, as the text of a changeset with an INSERT for each row. They leave the
-//! broker and its numbers as they are, and return -1 if the handle is shut, or -6 if another call is
-//! in it.
+//! broker and its numbers as they are, and return -1 if the handle is shut, or -6 if another call
+//! is in it.
 
 ghost use Rattle.std.specs.Prelude.{◌≡◌, IfOk};
 ghost use Rattle.std.specs.Option.{option_copied, option_map};

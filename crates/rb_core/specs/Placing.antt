@@ -30,12 +30,14 @@ stop_of (reply.Refused refusal) = Some (why.Refused refusal)
 stop_of other = None
 
 -- the rest from the world after the event, or the world `back` if the event ends it
-abbrev pub unless_stopped : State → Option PlacingRefusal → State → (State → PlacingEnd) → PlacingEnd
+abbrev pub unless_stopped : State → Option PlacingRefusal → State → (State → PlacingEnd)
+    → PlacingEnd
 unless_stopped back (Some refusal) mid rest = (Err refusal, back)
 unless_stopped back None mid rest = rest mid
 
 abbrev pub after_event : State → State → Event → (State → PlacingEnd) → PlacingEnd
-after_event back old event rest = unless_stopped back (stop_of (outcome old event).0) (outcome old event).1 rest
+after_event back old event rest =
+    unless_stopped back (stop_of (outcome old event).0) (outcome old event).1 rest
 
 -- the rest if nothing waits to be placed
 abbrev pub when_none_waits : State → ℕ → PlacingEnd → PlacingEnd
@@ -70,7 +72,8 @@ pub record MayStarve (old : State) (p : ℕ) (text : List ℕ) : Type 0 where
 -- the answer is the placing's, and so is the world after it; without memory nothing changes
 abbrev pub AnswersPlacing : Result ℕ PlacingError → State → ℕ → List ℕ → State → Type 0
 AnswersPlacing (Ok number) old p text new = placing old p text ≡ (Ok number, new)
-AnswersPlacing (Err (error.Refused refusal)) old p text new = placing old p text ≡ (Err refusal, new)
+AnswersPlacing (Err (error.Refused refusal)) old p text new =
+    placing old p text ≡ (Err refusal, new)
 AnswersPlacing (Err error.Memory) old p text new = (new ≡ old) × MayStarve old p text
 
 -- ---- what a placing comes to

@@ -29,4 +29,5 @@ status_at front None end = None
 
 -- of the subscription with this number, if there is one
 abbrev pub subscription_status : State → ℕ → Option SubscriptionStatus
-subscription_status w s = status_at w.desk.front (slice_get w.desk.subscriptions s) (slice_get w.endpoints s)
+subscription_status w s =
+    status_at w.desk.front (slice_get w.desk.subscriptions s) (slice_get w.endpoints s)

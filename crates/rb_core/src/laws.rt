@@ -26,7 +26,7 @@ ghost use Rattle.rb_core.specs.Moves.{AreAllOf, IsSending};
 ghost use Rattle.rb_core.specs.Outcome.{outcome, delivery_of};
 ghost use Rattle.rb_core.specs.Placing.{placing_replies, placing_events, placing};
 ghost use Rattle.rb_core.specs.Run.{Answer, IsRunOf, Run, RunsOn};
-ghost use Rattle.rb_core.specs.State.{State, IsWorld, AreTablesBegun, bare_tables, empty_world};
+ghost use Rattle.rb_core.specs.State.{State, IsWorld, bare_tables, empty_world};
 ghost use Rattle.rb_core.specs.Texts.{FeedsByText, EndsByText};
 ghost use Rattle.rb_core.specs.Told.{Paired, all_tables_asked, world_told, IsToldBy};
 ghost use Rattle.rb_core.specs.World.{Sender, Subscriber, World, world_begun, endpoint_of};
@@ -250,8 +250,8 @@ pub fn subscriptions_begin_as_asked()
 
 /// At any time of any run, each subscription has an endpoint in the broker. Where the changesets
 /// that the subscription accepted apply singly, without conflict, to the tables that it began with,
-/// the endpoint's tables are what one thread gets that applies them so. It began with tables of the
-/// schema without rows, all of them kept or none.
+/// the endpoint's tables are what one thread gets that applies them so. It began with the tables
+/// that were asked for (`subscriptions_begin_as_asked`).
 pub fn tables_apply_singly()
     ensures { (limits : Limits) (schema : List Shape) (events : List Event)
         (answers : List Answer) (new : State) (s : ℕ) (subscriber : Subscriber)
@@ -259,29 +259,33 @@ pub fn tables_apply_singly()
         → slice_get (world_told schema events answers).subscribers s ≡ Some subscriber
         → (end : Endpoint) × (slice_get new.endpoints s ≡ Some end)
         × HasSingleTables subscriber.base subscriber.accepted end.tables
-        × AreTablesBegun schema subscriber.base }
+        × (slice_get (all_tables_asked schema events answers) s ≡ Some subscriber.base) }
 {
     runs_are_told();
     accepted_is_gapless();
     bodies_are_changesets();
+    subscriptions_begin_as_asked();
     courses::tables_apply_singly();
 }
 
 /// At any time of any run, each subscription has an endpoint in the broker. The batches that the
 /// subscription accepted, each the entries of one delivery, are its accepted entries, in order. The
 /// endpoint's tables are what the groups of the batches leave, applied one batch after another to
-/// the tables that the subscription began with. This holds whether or not the changesets apply
-/// singly without conflict.
+/// the tables that the subscription began with, those that were asked for
+/// (`subscriptions_begin_as_asked`). This holds whether or not the changesets apply singly without
+/// conflict.
 pub fn tables_are_of_batches()
     ensures { (limits : Limits) (schema : List Shape) (events : List Event)
         (answers : List Answer) (new : State) (s : ℕ) (subscriber : Subscriber)
         → IsRunOf limits schema events answers new
         → slice_get (world_told schema events answers).subscribers s ≡ Some subscriber
         → (end : Endpoint) × (slice_get new.endpoints s ≡ Some end)
-        × HasBatchTables subscriber.base subscriber.batches subscriber.accepted end.tables }
+        × HasBatchTables subscriber.base subscriber.batches subscriber.accepted end.tables
+        × (slice_get (all_tables_asked schema events answers) s ≡ Some subscriber.base) }
 {
     runs_are_told();
     accepted_is_gapless();
+    subscriptions_begin_as_asked();
     courses::tables_are_of_batches();
 }
 

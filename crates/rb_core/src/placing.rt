@@ -110,7 +110,8 @@ impl Parts {
         requires front { self.old.desk.front ≡ length self.old.sequence }
         ensures ok { IfOk result (λ number. (number ≡ suc (length self.old.sequence))
             × (self.new ≡ placed_with self.old publisher item)) }
-        ensures err { IfErr result (λ error. (error ≡ PlacingError.Memory) × (self.new ≡ self.old)) }
+        ensures err { IfErr result (λ error.
+            (error ≡ PlacingError.Memory) × (self.new ≡ self.old)) }
     {
         let form = item.form(alloc).map_err(|_| PlacingError::Memory)?;
         make_room(&mut self.sequence).map_err(|_| PlacingError::Memory)?;

@@ -134,8 +134,8 @@ impl World {
         Some(end.cursor())
     }
 
-    /// What is known of a subscription: how far it has come, and what waits for it. Changes nothing,
-    /// and does not allocate. Returns `None` if there is no such subscription.
+    /// What is known of a subscription: how far it has come, and what waits for it. Changes
+    /// nothing, and does not allocate. Returns `None` if there is no such subscription.
     pub fn status(&self, subscription: u64) -> Option<SubscriptionStatus>
         ensures { result ≡ subscription_status self.now subscription }
     {

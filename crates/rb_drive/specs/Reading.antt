@@ -38,7 +38,8 @@ changeset_of (Some publisher) bytes =
     if nat_lt publisher 64 then changeset_of_bytes publisher bytes else None
 
 abbrev pub two_line_words : List ℕ → List ℕ → Option LineEntry
-two_line_words name word = if same_bytes name (codes "table") then table_of (bytes_of word) else None
+two_line_words name word =
+    if same_bytes name (codes "table") then table_of (bytes_of word) else None
 
 abbrev pub three_line_words : List ℕ → List ℕ → List ℕ → Option LineEntry
 three_line_words name number word =

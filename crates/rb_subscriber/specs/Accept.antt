@@ -181,8 +181,8 @@ AppliesSingly old (entry ∷ entries) new = (mid : tables.TableState)
 -- Where these entries apply singly, without conflict, to the first tables, the tables now are what
 -- one thread gets that applies them so.
 abbrev pub HasSingleTables : tables.TableState → List Entry → tables.TableState → Type 0
-HasSingleTables first entries now = (tables : tables.TableState) → AppliesSingly first entries tables
-    → now ≡ tables
+HasSingleTables first entries now = (tables : tables.TableState)
+    → AppliesSingly first entries tables → now ≡ tables
 
 -- a call of an endpoint that returned `Ok` left such tables
 abbrev pub LeavesSingly : {T E : Type 0} → Result T E → Endpoint → List Entry → Endpoint → Type 0

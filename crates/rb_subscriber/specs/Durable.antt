@@ -52,7 +52,8 @@ KeepAnswers (Err (keep.Store plan why)) accepted old new = FallsWith plan accept
 -- the changes of rows that it makes, each of another key.
 pub record PlansGroup (tables : TableState) (entries : List Entry) (changes : RowChanges)
     : Type 0 where
-  pub applied : single tables (group_of (joined_bodies entries)) ≡ Ok (changed_tables tables changes)
+  pub applied : single tables (group_of (joined_bodies entries))
+      ≡ Ok (changed_tables tables changes)
   pub distinct : IsDistinct same_key (keys_of changes)
   pub fit : RowsFit tables changes
 

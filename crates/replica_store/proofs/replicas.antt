@@ -7,3 +7,4 @@ pub mod ShownLaws
 pub mod FollowLaws
 pub mod ChangeLaws
 pub mod DurableLaws
+pub mod UndoneLaws

@@ -1,8 +1,8 @@
 -- What a call leaves of a connection, where the disk returned what was written.
-use Rattle.std.specs.Prelude.{◌≡◌, ◌⊎◌, ℕ, IsTrue, OnOk, IfOk, Result}
+use Rattle.std.specs.Prelude.{◌≡◌, ◌⊎◌, ℕ, false, IsTrue, OnOk, OnErr, IfOk, Result}
 use Rattle.std.specs.Global.{Vec}
 use Rattle.sqlite.specs.Order.{Row}
-use Rattle.sqlite.specs.State.{HasCleanDisk, IsUnchanged, State, Survives}
+use Rattle.sqlite.specs.State.{HasCleanDisk, IsRolledBack, IsUnchanged, State, Survives}
 use Rattle.sqlite.specs.Tree.{Trees}
 use Rattle.par_apply.specs.RowChanges.{RowChanges}
 use Rattle.replica_store.specs.Changes.{Commits}
@@ -21,9 +21,29 @@ Reaches result Is new = HasCleanDisk new → OnOk result (Is new)
 abbrev pub Makes : {T E : Type 0} → Result T E → (State → State → Type 0) → State → State → Type 0
 Makes result Is old new = HasCleanDisk new → OnOk result (Is old new)
 
+-- the same after a call that returned an error
+abbrev pub Leaves : {T E : Type 0} → Result T E → (State → State → Type 0) → State → State → Type 0
+Leaves result Is old new = HasCleanDisk new → OnErr result (Is old new)
+
 -- a crash leaves nothing that it didn't leave before
 abbrev pub AddsNone : State → State → Type 0
 AddsNone old new = Survives old new (λ _. ⊥)
+
+-- nothing changed, or the transaction is undone
+abbrev pub IsUndone : State → State → Type 0
+IsUndone old new = IsUnchanged old new ⊎ IsRolledBack old new
+
+-- No transaction is open, and an open connection holds the replica that it held.
+pub record StillHolds (old new : State) : Type 0 where
+  pub outside : new.in_transaction ≡ false
+  pub held : IsTrue new.is_open → HoldsReplica new × (new.committed ≡ old.committed)
+
+-- A connection that is handed back: a transaction is open exactly if one was. An open connection was
+-- open before, and has the same tables.
+pub record IsHandedBack (old new : State) : Type 0 where
+  pub mode : new.in_transaction ≡ old.in_transaction
+  pub same : HasCleanDisk new → IsTrue new.is_open
+      → IsTrue old.is_open × (new.now ≡ old.now) × (new.committed ≡ old.committed)
 
 -- a query that shows each row of a tree so, and changes nothing
 abbrev pub ListsTree : {E : Type 0} → (Row → Row) → ℕ → Result (Vec Row) E → State → State → Type 0

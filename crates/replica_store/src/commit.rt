@@ -2,13 +2,20 @@
 
 ghost use Rattle.std.specs.Prelude.{◌≡◌, ◌<◌, ◌≤◌, ◌^◌, pos, None, Some, IfOk, OnErr};
 ghost use Rattle.sqlite.specs.Held.{state};
-ghost use Rattle.sqlite.specs.State.{Survives};
+ghost use Rattle.sqlite.specs.State.{HasCleanDisk, KeepsCommit, Survives};
 ghost use Rattle.replica_store.specs.Causes.{CannotCommit, CannotMake, ErrorHasCause, UsesIds};
 ghost use Rattle.replica_store.specs.Changes.{row_body, AfterChange, AfterChanges, Commits};
 ghost use Rattle.replica_store.specs.Inside.{WithoutRow, WithBody};
 ghost use Rattle.replica_store.specs.Inside.{IsInside, ChangesRows, SetsCursor};
 ghost use Rattle.replica_store.specs.Picture.{HoldsReplica};
-ghost use Rattle.replica_store.specs.Steps.{WhereClean, Makes, AddsNone, HoldsCommit};
+ghost use Rattle.replica_store.specs.Steps.{
+  WhereClean,
+  Makes,
+  Leaves,
+  AddsNone,
+  HoldsCommit,
+  StillHolds,
+};
 
 use cs_model::{Row, RowKey};
 use par_apply::RowChange;
@@ -26,6 +33,7 @@ pub(crate) fn commit_once<S: Alter>(
         (state S.Store conn.old) (state S.Store conn.new) }
     ensures crash { Survives (state S.Store conn.old) (state S.Store conn.new)
         (Commits changes.now cursor (state S.Store conn.old).committed.trees) }
+    ensures still { Leaves result StillHolds (state S.Store conn.old) (state S.Store conn.new) }
     ensures cause { ErrorHasCause result
         (CannotCommit changes.now (state S.Store conn.old).committed.trees)
         (state S.Store conn.old) (state S.Store conn.new) }
@@ -47,6 +55,8 @@ fn change_all<S: Alter>(tx: &mut Transaction<'_, S>, changes: &[RowChange]) -> R
     ensures changes { Makes result (ChangesRows (AfterChanges changes.now))
         (state S.Store tx.old.conn.now) (state S.Store tx.new.conn.now) }
     ensures survives { AddsNone (state S.Store tx.old.conn.now) (state S.Store tx.new.conn.now) }
+    ensures kept { HasCleanDisk (state S.Store tx.new.conn.now)
+        → KeepsCommit (state S.Store tx.old.conn.now) (state S.Store tx.new.conn.now) }
     ensures cause { ErrorHasCause result
         (CannotCommit changes.now (state S.Store tx.old.conn.now).now.trees)
         (state S.Store tx.old.conn.now) (state S.Store tx.new.conn.now) }
@@ -63,6 +73,8 @@ fn change_one<S: Alter>(tx: &mut Transaction<'_, S>, change: &RowChange) -> Resu
     ensures changes { Makes result (ChangesRows (AfterChange change.now))
         (state S.Store tx.old.conn.now) (state S.Store tx.new.conn.now) }
     ensures survives { AddsNone (state S.Store tx.old.conn.now) (state S.Store tx.new.conn.now) }
+    ensures kept { HasCleanDisk (state S.Store tx.new.conn.now)
+        → KeepsCommit (state S.Store tx.old.conn.now) (state S.Store tx.new.conn.now) }
     ensures ids { Makes result (UsesIds 1)
         (state S.Store tx.old.conn.now) (state S.Store tx.new.conn.now) }
     ensures cause { ErrorHasCause result
@@ -82,6 +94,8 @@ fn upsert_row<S: Alter>(tx: &mut Transaction<'_, S>, key: &RowKey, row: &Row) ->
     ensures puts { Makes result (ChangesRows (WithBody key.now (row_body row.now)))
         (state S.Store tx.old.conn.now) (state S.Store tx.new.conn.now) }
     ensures survives { AddsNone (state S.Store tx.old.conn.now) (state S.Store tx.new.conn.now) }
+    ensures kept { HasCleanDisk (state S.Store tx.new.conn.now)
+        → KeepsCommit (state S.Store tx.old.conn.now) (state S.Store tx.new.conn.now) }
     ensures ids { Makes result (UsesIds 1)
         (state S.Store tx.old.conn.now) (state S.Store tx.new.conn.now) }
     ensures cause { ErrorHasCause result
@@ -110,6 +124,8 @@ fn delete_row<S: Alter>(tx: &mut Transaction<'_, S>, key: &RowKey) -> Result<(),
     ensures deletes { Makes result (ChangesRows (WithoutRow key.now))
         (state S.Store tx.old.conn.now) (state S.Store tx.new.conn.now) }
     ensures survives { AddsNone (state S.Store tx.old.conn.now) (state S.Store tx.new.conn.now) }
+    ensures kept { HasCleanDisk (state S.Store tx.new.conn.now)
+        → KeepsCommit (state S.Store tx.old.conn.now) (state S.Store tx.new.conn.now) }
     ensures ids { Makes result (UsesIds 1)
         (state S.Store tx.old.conn.now) (state S.Store tx.new.conn.now) }
     ensures cause { ErrorHasCause result
@@ -140,6 +156,8 @@ fn set_cursor<S: Alter>(tx: &mut Transaction<'_, S>, cursor: u64) -> Result<usiz
     ensures sets { Makes result (SetsCursor cursor)
         (state S.Store tx.old.conn.now) (state S.Store tx.new.conn.now) }
     ensures survives { AddsNone (state S.Store tx.old.conn.now) (state S.Store tx.new.conn.now) }
+    ensures kept { HasCleanDisk (state S.Store tx.new.conn.now)
+        → KeepsCommit (state S.Store tx.old.conn.now) (state S.Store tx.new.conn.now) }
     ensures cause { ErrorHasCause result ⊥
         (state S.Store tx.old.conn.now) (state S.Store tx.new.conn.now) }
 {

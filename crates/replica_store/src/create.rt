@@ -1,13 +1,13 @@
 //! Makes a replica's tables in a database without tables, in one transaction.
 
-ghost use Rattle.std.specs.Prelude.{◌≡◌, ◌↔◌, [], false, IsTrue, OnOk};
-ghost use Rattle.sqlite.specs.{Held.{state}, State.{Survives}};
+ghost use Rattle.std.specs.Prelude.{◌≡◌, ◌↔◌, [], false, IsTrue, OnOk, OnErr};
+ghost use Rattle.sqlite.specs.{Held.{state}, State.{HasCleanDisk, KeepsCommit, Survives}};
 ghost use Rattle.replica_store.specs.{
   Causes.{CannotCreate, ErrorHasCause},
   Inside.{IsBlankInside, IsNewInside},
   Layout.{empty_schema},
   Picture.{IsNewReplica},
-  Steps.{WhereClean, Reaches, AddsNone, LeavesCommitted, HoldsNew},
+  Steps.{WhereClean, Reaches, AddsNone, LeavesCommitted, HoldsNew, IsHandedBack},
 };
 
 use sqlite::{Alter, Connection, Error, ErrorCode, Transaction};
@@ -19,6 +19,9 @@ pub(crate) fn create_once<S: Alter>(conn: &mut Connection<S>) -> Result<(), Erro
     ensures made { Reaches result HoldsNew (state S.Store conn.new) }
     ensures stands { Reaches result LeavesCommitted (state S.Store conn.new) }
     ensures survives { Survives (state S.Store conn.old) (state S.Store conn.new) IsNewReplica }
+    ensures kept { (conn.old.schema ≡ empty_schema → ⊥)
+        → AddsNone (state S.Store conn.old) (state S.Store conn.new) }
+    ensures back { OnErr result (IsHandedBack (state S.Store conn.old) (state S.Store conn.new)) }
     ensures cause { ErrorHasCause result (CannotCreate (state S.Store conn.old))
         (state S.Store conn.old) (state S.Store conn.new) }
 {
@@ -46,6 +49,8 @@ fn make_all<S: Alter>(tx: &mut Transaction<'_, S>) -> Result<(), Error>
     ensures same_reference { tx.new.conn.ghost_name ≡ tx.old.conn.ghost_name }
     ensures made { Reaches result IsNewInside (state S.Store tx.new.conn.now) }
     ensures survives { AddsNone (state S.Store tx.old.conn.now) (state S.Store tx.new.conn.now) }
+    ensures kept { HasCleanDisk (state S.Store tx.new.conn.now)
+        → KeepsCommit (state S.Store tx.old.conn.now) (state S.Store tx.new.conn.now) }
     ensures cause { ErrorHasCause result ((state S.Store tx.old.conn.now).is_open ≡ false)
         (state S.Store tx.old.conn.now) (state S.Store tx.new.conn.now) }
 {

@@ -1,6 +1,7 @@
 //! What holds of a replica over a restart.
 
-ghost use Rattle.std.specs.{Prelude.{ℕ, ◌<◌, ◌^◌, IfSome, OnOk}, List.{IsDistinct}, Map.{keys_of}};
+ghost use Rattle.std.specs.Prelude.{ℕ, ◌≢◌, ◌<◌, ◌^◌, IfErr, IfSome, OnOk};
+ghost use Rattle.std.specs.{List.{IsDistinct}, Map.{keys_of}};
 ghost use Rattle.cs_apply.specs.{SameKey.{same_key}, State.{Rows}};
 ghost use Rattle.par_apply.specs.RowChanges.{RowChanges, overlaid};
 ghost use Rattle.sqlite.specs.{Held.{state}, State.{HasCleanDisk}, Tree.{Trees}};
@@ -9,6 +10,7 @@ ghost use Rattle.replica_store.specs.{
   Loading.{TableBodies},
   Picture.{AreSameRows, HoldsReplica, Stores},
   Steps.{WhereClean, HoldsCommit, HoldsOneOf},
+  declared.error.ReplicaError.TheVariants.{Unusable},
 };
 
 use crate::error::ReplicaError;
@@ -44,6 +46,7 @@ pub fn commit_and_crash<S: Alter + Reopen + Drop>(
         (HoldsOneOf changes.now cursor (state S.Store replica.conn)) (state S.Store again.conn)) }
     ensures stands { OnOk result.0 (IfSome result.1 (λ again. WhereClean
         (HoldsCommit changes.now cursor (state S.Store replica.conn)) (state S.Store again.conn))) }
+    ensures named { IfErr result.0 (λ e. e ≢ Unusable) }
 {
     let answer = replica.commit(changes, cursor);
     (answer, crash_and_open(alloc, replica))
@@ -98,6 +101,7 @@ pub fn commit_and_open<S: Alter + Drop>(
         (HoldsOneOf changes.now cursor (state S.Store replica.conn)) (state S.Store again.conn)) }
     ensures stands { OnOk result.0 (IfSome result.1 (λ again. WhereClean
         (HoldsCommit changes.now cursor (state S.Store replica.conn)) (state S.Store again.conn))) }
+    ensures named { IfErr result.0 (λ e. e ≢ Unusable) }
 {
     let answer = replica.commit(changes, cursor);
     let (conn, schema) = replica.into_parts();

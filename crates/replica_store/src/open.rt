@@ -1,6 +1,6 @@
 //! Tests that a database is a replica's. No statement writes.
 
-ghost use Rattle.std.specs.Prelude.{◌≡◌, ◌↔◌, ℕ, false, IsTrue, IfOk, OnOk, Err};
+ghost use Rattle.std.specs.Prelude.{◌≡◌, ◌↔◌, ℕ, false, IsTrue, IfOk, OnOk, OnErr, Err};
 ghost use Rattle.std.specs.List.{list_all};
 ghost use Rattle.sqlite.specs.Held.{state, Serves};
 ghost use Rattle.sqlite.specs.State.{HasCleanDisk, IsUnchanged};
@@ -8,7 +8,15 @@ ghost use Rattle.replica_store.specs.Causes.{CannotBegin, StoreHasCause};
 ghost use Rattle.replica_store.specs.Layout.{replica_schema};
 ghost use Rattle.replica_store.specs.Picture.{HasCursor, HoldsReplica, IsReplica};
 ghost use Rattle.replica_store.specs.Reading.{AreRowRecords, HasTableColumns, is_shown_record};
-ghost use Rattle.replica_store.specs.Steps.{WhereClean, Makes, AddsNone, KeepsColumns};
+ghost use Rattle.replica_store.specs.Steps.{
+  WhereClean,
+  Makes,
+  Leaves,
+  AddsNone,
+  KeepsColumns,
+  IsUndone,
+  IsHandedBack,
+};
 ghost use Rattle.replica_store.specs.declared.error.ReplicaError.TheVariants.{Unusable};
 
 use crate::error::{ReplicaError, reported};
@@ -43,6 +51,7 @@ pub(crate) fn check<S: Alter>(conn: &mut Connection<S>) -> Result<(), ReplicaErr
         × IsUnchanged (state S.Store conn.old) (state S.Store conn.new)) }
     ensures unusable { HasCleanDisk (state S.Store conn.new) → result ≡ Err Unusable
         → conn.old.schema ≡ replica_schema → IsReplica (state S.Store conn.old).now.trees → ⊥ }
+    ensures back { OnErr result (IsHandedBack (state S.Store conn.old) (state S.Store conn.new)) }
     ensures survives { AddsNone (state S.Store conn.old) (state S.Store conn.new) }
     ensures cause { StoreHasCause result (CannotBegin (state S.Store conn.old))
         (state S.Store conn.old) (state S.Store conn.new) }
@@ -66,6 +75,8 @@ fn is_replica<S: Alter>(conn: &mut Connection<S>) -> Result<bool, ReplicaError>
     ensures fits { HasCleanDisk (state S.Store conn.new) → IfOk result (λ fits.
         IsTrue fits ↔ IsReplica (state S.Store conn.old).now.trees) }
     ensures same { Makes result IsUnchanged (state S.Store conn.old) (state S.Store conn.new) }
+    ensures undone { Leaves result IsUndone (state S.Store conn.old) (state S.Store conn.new) }
+    ensures mode { conn.old.in_transaction ≡ false → conn.new.in_transaction ≡ false }
     ensures named { result ≡ Err Unusable → ⊥ }
     ensures survives { AddsNone (state S.Store conn.old) (state S.Store conn.new) }
     ensures cause { StoreHasCause result ((state S.Store conn.old).is_open ≡ false)
@@ -83,6 +94,8 @@ fn has_records<S: Alter>(conn: &mut Connection<S>) -> Result<bool, ReplicaError>
     ensures fits { HasCleanDisk (state S.Store conn.new) → IfOk result (λ fits.
         IsTrue fits ↔ AreRowRecords ((state S.Store conn.old).now.trees 0)) }
     ensures same { Makes result IsUnchanged (state S.Store conn.old) (state S.Store conn.new) }
+    ensures undone { Leaves result IsUndone (state S.Store conn.old) (state S.Store conn.new) }
+    ensures mode { conn.old.in_transaction ≡ false → conn.new.in_transaction ≡ false }
     ensures named { result ≡ Err Unusable → ⊥ }
     ensures survives { AddsNone (state S.Store conn.old) (state S.Store conn.new) }
     ensures cause { StoreHasCause result ((state S.Store conn.old).is_open ≡ false)
@@ -111,6 +124,8 @@ fn has_mark<S: Alter>(conn: &mut Connection<S>) -> Result<bool, ReplicaError>
     ensures fits { HasCleanDisk (state S.Store conn.new) → IfOk result (λ fits.
         IsTrue fits ↔ ((place : ℕ) × HasCursor (state S.Store conn.old).now.trees place)) }
     ensures same { Makes result IsUnchanged (state S.Store conn.old) (state S.Store conn.new) }
+    ensures undone { Leaves result IsUndone (state S.Store conn.old) (state S.Store conn.new) }
+    ensures mode { conn.old.in_transaction ≡ false → conn.new.in_transaction ≡ false }
     ensures named { result ≡ Err Unusable → ⊥ }
     ensures survives { AddsNone (state S.Store conn.old) (state S.Store conn.new) }
     ensures cause { StoreHasCause result ((state S.Store conn.old).is_open ≡ false)

@@ -19,11 +19,14 @@ ghost use Rattle.replica_store.specs.{
     WhereClean,
     Reaches,
     Makes,
+    Leaves,
     AddsNone,
     LeavesCommitted,
     HoldsCommit,
     HoldsNew,
+    IsHandedBack,
     ReadsReplica,
+    StillHolds,
   },
   declared.error.ReplicaError.TheVariants.{Store, Unusable},
 };
@@ -67,7 +70,9 @@ pub struct Replica<S: Alter> {
 impl<S: Alter + Drop> Replica<S> {
     /// Makes a replica without rows, with cursor 0, in a database without tables. It is one
     /// transaction: a crash leaves the database as it was, or the whole replica, after an error
-    /// too. Answers `Store` if anything is in the database's schema, or a transaction is open.
+    /// too. Answers `Store` if anything is in the database's schema, or a transaction is open; then
+    /// a crash leaves what it left before the call. The connection comes back with the tables and
+    /// in the mode that it had.
     pub fn create(
         mut conn: Connection<S>,
         schema: Arc<Schema>,
@@ -81,6 +86,10 @@ impl<S: Alter + Drop> Replica<S> {
         ensures named { IfErr result (λ refused. refused.why ≢ Unusable) }
         ensures refused { IfErr result (λ refused.
             Survives (state S.Store conn) (state S.Store refused.conn) IsNewReplica) }
+        ensures kept { IfErr result (λ refused. (conn.schema ≡ empty_schema → ⊥)
+            → AddsNone (state S.Store conn) (state S.Store refused.conn)) }
+        ensures back { IfErr result (λ refused.
+            IsHandedBack (state S.Store conn) (state S.Store refused.conn)) }
         ensures cause { IfErr result (λ refused. HasCleanDisk (state S.Store refused.conn)
             → refused.why ≡ Store → HasStoreCause (CannotCreate (state S.Store conn))
             (state S.Store conn) (state S.Store refused.conn)) }
@@ -93,7 +102,8 @@ impl<S: Alter + Drop> Replica<S> {
 
     /// Opens the replica that a database holds. No statement writes. Answers `Store` if a
     /// transaction is open, and `Unusable` if the database's tables or its mark aren't those of a
-    /// replica; `load` tests the rows' bodies.
+    /// replica; `load` tests the rows' bodies. The connection comes back with the tables and in the
+    /// mode that it had.
     pub fn open(
         conn: Connection<S>,
         schema: Arc<Schema>,
@@ -106,6 +116,8 @@ impl<S: Alter + Drop> Replica<S> {
         ensures same_schema { IfOk result (λ r. r.schema ≡ schema) }
         ensures refused { IfErr result (λ refused.
             AddsNone (state S.Store conn) (state S.Store refused.conn)) }
+        ensures back { IfErr result (λ refused.
+            IsHandedBack (state S.Store conn) (state S.Store refused.conn)) }
         ensures unusable { IfErr result (λ refused. HasCleanDisk (state S.Store refused.conn)
             → refused.why ≡ Unusable → conn.schema ≡ replica_schema
             → IsReplica (state S.Store conn).now.trees → ⊥) }
@@ -125,6 +137,7 @@ impl<S: Alter> Replica<S> {
     /// Makes the changes in their order and sets the cursor, in one transaction. Whenever it
     /// returns, a crash leaves the rows and the cursor as before the call, or all of them as after
     /// it; after `Ok`, as after it. After an error, open the replica again: it has one of the two.
+    /// No transaction is left open.
     pub fn commit(&mut self, changes: &[RowChange], cursor: u64) -> Result<(), ReplicaError>
         requires held { WhereClean HoldsReplica (state S.Store self.old.conn) }
         requires below { cursor < 2 ^ 63 }
@@ -137,6 +150,8 @@ impl<S: Alter> Replica<S> {
             ⊎ Commits changes.now cursor (state S.Store self.old.conn).committed.trees db }
         ensures survives { Survives (state S.Store self.old.conn) (state S.Store self.new.conn)
             (Commits changes.now cursor (state S.Store self.old.conn).committed.trees) }
+        ensures still { Leaves result StillHolds
+            (state S.Store self.old.conn) (state S.Store self.new.conn) }
         ensures named { IfErr result (λ e. e ≢ Unusable) }
         ensures cause { StoreHasCause result
             (CannotCommit changes.now (state S.Store self.old.conn).committed.trees)
@@ -154,6 +169,8 @@ impl<S: Alter> Replica<S> {
         ensures same { Makes result IsUnchanged
             (state S.Store self.old.conn) (state S.Store self.new.conn) }
         ensures held { Reaches result HoldsReplica (state S.Store self.new.conn) }
+        ensures still { Leaves result StillHolds
+            (state S.Store self.old.conn) (state S.Store self.new.conn) }
         ensures usable { HasCleanDisk (state S.Store self.new.conn) → result ≡ Err Unusable → ⊥ }
         ensures cause { StoreHasCause result ⊥
             (state S.Store self.old.conn) (state S.Store self.new.conn) }
@@ -185,6 +202,8 @@ impl<S: Alter> Replica<S> {
         ensures same { Makes result IsUnchanged
             (state S.Store self.old.conn) (state S.Store self.new.conn) }
         ensures held { Reaches result HoldsReplica (state S.Store self.new.conn) }
+        ensures still { Leaves result StillHolds
+            (state S.Store self.old.conn) (state S.Store self.new.conn) }
         ensures survives { AddsNone (state S.Store self.old.conn) (state S.Store self.new.conn) }
         ensures cause { StoreHasCause result ⊥
             (state S.Store self.old.conn) (state S.Store self.new.conn) }
@@ -208,6 +227,8 @@ impl<S: Alter> Replica<S> {
             → AreSchemaRows (arc_value self.old.schema)
             (Stores (state S.Store self.old.conn).committed.trees) → ⊥ }
         ensures reads { ReadsReplica result
+            (state S.Store self.old.conn) (state S.Store self.new.conn) }
+        ensures still { Leaves result StillHolds
             (state S.Store self.old.conn) (state S.Store self.new.conn) }
         ensures cause { StoreHasCause result ⊥
             (state S.Store self.old.conn) (state S.Store self.new.conn) }

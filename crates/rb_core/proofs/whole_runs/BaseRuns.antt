@@ -1,7 +1,8 @@
 -- The tables that subscriptions begin with are those asked for, in order.
 use Rattle.std.proofs.Common.{◌≡◌, ℕ, zero, suc, Bool, true, false, List, [], ◌∷◌, ◌++◌, map}
-use Rattle.std.proofs.Common.{Option, Some, None, Ok, Err, refl, sym, ap, ◌∙◌}
+use Rattle.std.proofs.Common.{Option, Some, None, Ok, Err, option_map, refl, sym, ap, ◌∙◌}
 use Rattle.std.proofs.lemmas.List.{append_assoc, append-nil, map-append}
+use Rattle.std.proofs.lemmas.Option.{slice_get-map}
 use Rattle.std.specs.Prelude.{slice_get, slice_set, ◌-◌}
 use Rattle.cs_apply.specs.State.{TableState}
 use Rattle.cs_model.specs.declared.shape.Shape.{Shape}
@@ -174,3 +175,10 @@ pub bases_are_asked : (schema : List Shape) (events : List Event) (answers : Lis
     → map (λ q. q.base) (world_told schema events answers).subscribers
     ≡ all_tables_asked schema events answers
 bases_are_asked schema events answers = from_bases schema world_begun events answers
+
+-- the tables that one subscription began with
+pub asked_at : (subscribers : List Subscriber) (asked : List TableState) (s : ℕ) (subscriber : Subscriber)
+    → map (λ (q : Subscriber). q.base) subscribers ≡ asked → slice_get subscribers s ≡ Some subscriber
+    → slice_get asked s ≡ Some subscriber.base
+asked_at subscribers asked s subscriber all found =
+    ap (λ tables. slice_get tables s) (sym all) ∙ (slice_get-map base_of subscribers s ∙ ap (option_map base_of) found)

@@ -72,13 +72,12 @@ pub singly_run : ((mids : List World) (new : World) (s : ℕ) (subscriber : Subs
     → IsTold schema world_begun new world → slice_get world.subscribers s ≡ Some subscriber
     → AreChangesets world.sequence → slice_get new.endpoints s ≡ Some (endpoint_of subscriber)
     → (end : Endpoint) × (slice_get new.endpoints s ≡ Some end)
-    × HasSingleTables subscriber.base subscriber.accepted end.tables × AreTablesBegun schema subscriber.base
+    × HasSingleTables subscriber.base subscriber.accepted end.tables
 singly_run law schema new world s subscriber told found valid at =
     let begun = all_get (BeginsWithoutRows schema) world.subscribers s subscriber told.1.subscriptions.bases found in (
       endpoint_of subscriber,
       at,
       law told.0.0 world s subscriber told.0.1 found valid (begun_have_columns schema subscriber.base begun),
-      begun,
     )
 
 -- a subscription of which the course says that its tables are those of its batches

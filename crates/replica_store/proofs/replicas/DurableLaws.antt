@@ -1,5 +1,5 @@
 -- What a replica keeps as a durable store of rows and a cursor.
-use Rattle.std.proofs.Common.{◌≡◌, ◌⊎◌, inl, inr, ℕ, option_map, sym, ap, subst, ◌∙◌}
+use Rattle.std.proofs.Common.{◌≡◌, ◌≢◌, ◌⊎◌, inl, inr, ℕ, option_map, sym, ap, subst, ◌∙◌}
 use Rattle.std.proofs.Common.{Result, Ok, Err, IfErr, OnOk}
 use Rattle.std.specs.List.{IsDistinct}
 use Rattle.std.specs.Map.{keys_of}
@@ -17,6 +17,7 @@ use Rattle.replica_store.specs.Durable.{FailsToKeep, HasRows, HoldsRows}
 use Rattle.replica_store.specs.Loading.{TableBodies}
 use Rattle.replica_store.specs.Picture.{AreSameRows, HasCursor, HoldsReplica, IsNewReplica, Stores}
 use Rattle.replica_store.specs.declared.error.ReplicaError.{ReplicaError}
+use Rattle.replica_store.specs.declared.error.ReplicaError.TheVariants.{Unusable}
 use Rattle.replica_store.proofs.replicas.FollowLaws.{tables_follow_commits}
 
 -- a replica with these rows, of which a crash leaves what is committed
@@ -76,7 +77,8 @@ read_has_rows old mid new rows place first second cursor same =
 
 -- the cause of an error, as a durable store has it
 pub error_of_commit : {T : Type 0} (r : Result T ReplicaError) (old new : State) (changes : RowChanges) (cursor : ℕ)
-    → StoreHasCause r (CannotCommit changes old.committed.trees) old new
+    → IfErr r (λ e. e ≢ Unusable) → StoreHasCause r (CannotCommit changes old.committed.trees) old new
     → IfErr r (FailsToKeep old changes cursor new)
-error_of_commit (Ok x) old new changes cursor h = tt
-error_of_commit (Err why) old new changes cursor h = λ clean says. inr (h clean (ap (λ e. Err e) says))
+error_of_commit (Ok x) old new changes cursor named h = tt
+error_of_commit (Err why) old new changes cursor named h =
+    (named, λ clean says. inr (h clean (ap (λ e. Err e) says)))

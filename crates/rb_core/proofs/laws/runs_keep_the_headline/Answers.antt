@@ -11,7 +11,8 @@ returns c = λ limits schema events answers new run. record {
       (is.0, is.1, is.2);
   begun = c.subscriptions_begin_as_asked.ensures schema events answers;
   batches = λ s subscriber found.
-      c.tables_are_of_batches.ensures limits schema events answers new s subscriber run found;
+      let is = c.tables_are_of_batches.ensures limits schema events answers new s subscriber run found in
+      (is.0, is.1, is.2);
   in_order = λ p sender found.
       c.sendings_come_once_in_order.ensures.order limits schema events answers new p sender run found;
   kept = λ p sender found.

@@ -1,9 +1,12 @@
-use Rattle.rb_core.specs.Told.{world_told}
+use Rattle.rb_core.specs.Told.{all_tables_asked, world_told}
+use Rattle.rb_core.proofs.whole_runs.BaseRuns.{asked_at}
 use Rattle.rb_core.proofs.whole_runs.ToldLaws.{batched_run}
 use Rattle.rb_core.proofs.laws.tables_are_of_batches.Goals as goal
 
 pub returns : goal.returns
 returns c = λ limits schema events answers new s subscriber run found.
-    batched_run c.tables_are_of_batches.ensures schema new (world_told schema events answers) s subscriber
+    let is = batched_run c.tables_are_of_batches.ensures schema new (world_told schema events answers) s subscriber
     (c.runs_are_told.ensures.told limits schema events answers new run) found
-    (c.accepted_is_gapless.ensures.run limits schema events answers new s subscriber run found).1
+    (c.accepted_is_gapless.ensures.run limits schema events answers new s subscriber run found).1 in
+    (is.0, is.1, is.2, asked_at _ (all_tables_asked schema events answers) s subscriber
+    (c.subscriptions_begin_as_asked.ensures schema events answers) found)

@@ -27,4 +27,4 @@ returns-clause-leaves g c rows at keeps clean db left =
 pub returns-clause-failed : goal.returns-clause-failed
 returns-clause-failed g c =
     error_of_commit c.commit.result (state g.S.Store c.args.self.now.conn) (state g.S.Store c.commit.new.self.conn)
-    c.args.changes.now c.args.cursor c.commit.ensures.cause
+    c.args.changes.now c.args.cursor c.commit.ensures.named c.commit.ensures.cause
