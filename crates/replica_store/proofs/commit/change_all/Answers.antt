@@ -8,6 +8,7 @@ use Rattle.replica_store.specs.Inside.{ChangesRows}
 use Rattle.sqlite_rules.proofs.ListLemmas.{has_at}
 use Rattle.replica_store.proofs.causes.Reported.{commit_stopped, handed_on, one_id_more}
 use Rattle.replica_store.proofs.replicas.ChangeLaws.{changed_by_one_more}
+use Rattle.replica_store.proofs.replicas.UndoneLaws.{keeps_then}
 use Rattle.replica_store.proofs.commit.change_all.Goals as goal
 
 pub loop-change-preserved : goal.loop-change-preserved
@@ -32,6 +33,9 @@ loop-change-preserved g c =
       λ clean.
           let early : HasCleanDisk mid = omega (arith, c.change_one.ensures.survives.clean) in
           one_id_more old mid new at (was.3 early) (c.in_ok-change_one.ensures.ids clean),
+      λ clean.
+          let early : HasCleanDisk mid = omega (arith, c.change_one.ensures.survives.clean) in
+          keeps_then old mid new (was.4 early) (c.in_ok-change_one.ensures.kept clean),
     )
 
 pub returns-in_err-change_one-clause-cause : goal.returns-in_err-change_one-clause-cause
@@ -48,3 +52,14 @@ returns-in_err-change_one-clause-cause g c clean =
     handed_on c.from_residual.result _ _ c.from_residual.ensures.1 (λ says.
     commit_stopped old mid new all at item inside (has_at all at item inside c.change-item.is) was.1 (was.3 early)
     (c.in_err-change_one.ensures.cause clean says))
+
+pub returns-in_err-change_one-clause-kept : goal.returns-in_err-change_one-clause-kept
+returns-in_err-change_one-clause-kept g c clean =
+    let old = state g.S.Store c.args.tx.now.conn.now in
+    let mid = state g.S.Store c.loop-change.tx.conn.now in
+    let new = state g.S.Store c.change_one.new.tx.conn.now in
+    let early : HasCleanDisk mid = omega (arith, c.change_one.ensures.survives.clean) in
+    keeps_then old mid new (c.loop-change.invariant.4 early) (c.in_err-change_one.ensures.kept clean)
+
+pub returns-clause-kept : goal.returns-clause-kept
+returns-clause-kept g c clean = c.loop-change.invariant.4 clean

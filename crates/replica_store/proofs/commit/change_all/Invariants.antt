@@ -1,5 +1,5 @@
 use Rattle.std.proofs.Common.{◌≡◌, take}
-use Rattle.sqlite.specs.State.{HasCleanDisk, Survives}
+use Rattle.sqlite.specs.State.{HasCleanDisk, KeepsCommit, Survives}
 use Rattle.sqlite.specs.Held.{state}
 use Rattle.replica_store.specs.Causes.{UsesIds}
 use Rattle.replica_store.specs.Changes.{AfterChanges}
@@ -12,4 +12,4 @@ invariant-loop-change g l =
     let now = state g.S.Store l.tx.conn.now in
     (l.tx.conn.ghost_name ≡ l.initial.tx.conn.ghost_name) × Survives old now (λ _. ⊥)
     × (HasCleanDisk now → ChangesRows (AfterChanges (take l.change-index l.changes)) old now)
-    × (HasCleanDisk now → UsesIds l.change-index old now)
+    × (HasCleanDisk now → UsesIds l.change-index old now) × (HasCleanDisk now → KeepsCommit old now)
