@@ -4,9 +4,9 @@ use crate::entered::{APPLIERS, Entered};
 use crate::history::{History, Said, made};
 use cs_apply::Tables;
 use cs_model::Schema;
-use rb_broker::{Hall, RefusedSubscription, SubscribeError, TakeError};
+use rb_broker::{Broker, Hall, RefusedSubscription, SubscribeError, TakeError};
 use rb_desk::Delivery;
-use rb_subscriber::{AcceptRefusal, Shown, SubscriptionError, Workers};
+use rb_subscriber::{AcceptRefusal, Shown, Subscription, SubscriptionError, Workers};
 use std::alloc::Global;
 use std::sync::{Arc, Wait};
 use std::test::Fail;
@@ -107,8 +107,8 @@ impl<L: Hall> History<L> {
     ) -> Result<Said, Fail> {
         let taken = *made(self.deliveries.get(delivery))?;
         let subscription = made(self.subscriptions.get_mut(sub))?;
-        let sequence = self.broker.sequence();
         if delivery % 2 == 0 {
+            let sequence = self.broker.sequence();
             return accepted(subscription.accept_alone(alloc, sequence, &taken));
         }
         let entered = Entered::none();
@@ -117,7 +117,7 @@ impl<L: Hall> History<L> {
             n: APPLIERS,
             gate: &entered,
         };
-        let answer = subscription.accept(&workers, alloc, sequence, &taken);
+        let answer = call_accept(&self.broker, subscription, &workers, alloc, &taken);
         if answer.is_ok() && !entered.have_all() {
             return Err(Fail::new("each applier has a shard"));
         }
@@ -202,6 +202,18 @@ impl<L: Hall> History<L> {
             Err(error) => Ok(error.into()),
         }
     }
+}
+
+// a function of its own, so that refused/calls.txt can name it
+#[inline(never)]
+fn call_accept<L: Hall, R: Threads + Sync>(
+    broker: &Broker<L>,
+    subscription: &mut Subscription<L>,
+    workers: &Workers<R, Entered>,
+    alloc: Global,
+    delivery: &Delivery,
+) -> Result<u64, SubscriptionError> {
+    subscription.accept(workers, alloc, broker.sequence(), delivery)
 }
 
 fn unmade(refused: &RefusedSubscription) -> Said {

@@ -103,14 +103,16 @@ fn run<S: Alter>(conn: &mut Connection<S>, sql: &str) -> io::Result<()> {
 }
 
 /// Prints what creating a replica in a database that has a table answers, and what one that is
-/// created in memory has after two commits.
+/// created in memory has after two commits, and then after a `create` that is refused.
 pub fn tell_created(rt: &impl Print, alloc: Global, commits: &Commits) -> io::Result<()> {
     let other = created_over(alloc, "CREATE TABLE other (a)")?;
     println!(rt; "another table: {other}")?;
     let second = created_over(alloc, TABLES)?;
     println!(rt; "a replica's tables: {second}")?;
     let found = found_in_memory(alloc, commits)?;
-    println!(rt; "a replica in memory after two commits: {}", found.text())
+    println!(rt; "a replica in memory after two commits: {}", found.text())?;
+    let kept = found_after_create(alloc, commits)?;
+    println!(rt; "the same after a refused create: {}", kept.text())
 }
 
 // what creating a replica answers after this SQL
@@ -128,5 +130,16 @@ fn found_in_memory(alloc: Global, commits: &Commits) -> io::Result<Found> {
     match commit_both(conn, one_table(alloc)?, commits) {
         Ok((conn, true)) => Found::by(alloc, conn, commits),
         _ => Ok(Found::Neither),
+    }
+}
+
+fn found_after_create(alloc: Global, commits: &Commits) -> io::Result<Found> {
+    let conn = Connection::open_in_memory(alloc)?;
+    let Ok((conn, true)) = commit_both(conn, one_table(alloc)?, commits) else {
+        return Ok(Found::Neither);
+    };
+    match Replica::create(conn, one_table(alloc)?) {
+        Ok(_) => Ok(Found::Neither),
+        Err(refused) => Found::by(alloc, refused.conn, commits),
     }
 }
