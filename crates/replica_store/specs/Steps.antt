@@ -22,8 +22,9 @@ abbrev pub Makes : {T E : Type 0} → Result T E → (State → State → Type 0
 Makes result Is old new = HasCleanDisk new → OnOk result (Is old new)
 
 -- the same after a call that returned an error
-abbrev pub Leaves : {T E : Type 0} → Result T E → (State → State → Type 0) → State → State → Type 0
-Leaves result Is old new = HasCleanDisk new → OnErr result (Is old new)
+abbrev pub AfterError : {T E : Type 0} → Result T E → (State → State → Type 0) → State → State
+    → Type 0
+AfterError result Is old new = HasCleanDisk new → OnErr result (Is old new)
 
 -- a crash leaves nothing that it didn't leave before
 abbrev pub AddsNone : State → State → Type 0
@@ -38,8 +39,8 @@ pub record StillHolds (old new : State) : Type 0 where
   pub outside : new.in_transaction ≡ false
   pub held : IsTrue new.is_open → HoldsReplica new × (new.committed ≡ old.committed)
 
--- A connection that is handed back: a transaction is open exactly if one was. An open connection was
--- open before, and has the same tables.
+-- A connection that is handed back: a transaction is open exactly if one was. An open connection
+-- was open before, and has the same tables.
 pub record IsHandedBack (old new : State) : Type 0 where
   pub mode : new.in_transaction ≡ old.in_transaction
   pub same : HasCleanDisk new → IsTrue new.is_open

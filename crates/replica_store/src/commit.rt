@@ -11,7 +11,7 @@ ghost use Rattle.replica_store.specs.Picture.{HoldsReplica};
 ghost use Rattle.replica_store.specs.Steps.{
   WhereClean,
   Makes,
-  Leaves,
+  AfterError,
   AddsNone,
   HoldsCommit,
   StillHolds,
@@ -33,7 +33,7 @@ pub(crate) fn commit_once<S: Alter>(
         (state S.Store conn.old) (state S.Store conn.new) }
     ensures crash { Survives (state S.Store conn.old) (state S.Store conn.new)
         (Commits changes.now cursor (state S.Store conn.old).committed.trees) }
-    ensures still { Leaves result StillHolds (state S.Store conn.old) (state S.Store conn.new) }
+    ensures still { AfterError result StillHolds (state S.Store conn.old) (state S.Store conn.new) }
     ensures cause { ErrorHasCause result
         (CannotCommit changes.now (state S.Store conn.old).committed.trees)
         (state S.Store conn.old) (state S.Store conn.new) }

@@ -11,7 +11,7 @@ ghost use Rattle.replica_store.specs.Reading.{AreRowRecords, HasTableColumns, is
 ghost use Rattle.replica_store.specs.Steps.{
   WhereClean,
   Makes,
-  Leaves,
+  AfterError,
   AddsNone,
   KeepsColumns,
   IsUndone,
@@ -75,7 +75,7 @@ fn is_replica<S: Alter>(conn: &mut Connection<S>) -> Result<bool, ReplicaError>
     ensures fits { HasCleanDisk (state S.Store conn.new) → IfOk result (λ fits.
         IsTrue fits ↔ IsReplica (state S.Store conn.old).now.trees) }
     ensures same { Makes result IsUnchanged (state S.Store conn.old) (state S.Store conn.new) }
-    ensures undone { Leaves result IsUndone (state S.Store conn.old) (state S.Store conn.new) }
+    ensures undone { AfterError result IsUndone (state S.Store conn.old) (state S.Store conn.new) }
     ensures mode { conn.old.in_transaction ≡ false → conn.new.in_transaction ≡ false }
     ensures named { result ≡ Err Unusable → ⊥ }
     ensures survives { AddsNone (state S.Store conn.old) (state S.Store conn.new) }
@@ -94,7 +94,7 @@ fn has_records<S: Alter>(conn: &mut Connection<S>) -> Result<bool, ReplicaError>
     ensures fits { HasCleanDisk (state S.Store conn.new) → IfOk result (λ fits.
         IsTrue fits ↔ AreRowRecords ((state S.Store conn.old).now.trees 0)) }
     ensures same { Makes result IsUnchanged (state S.Store conn.old) (state S.Store conn.new) }
-    ensures undone { Leaves result IsUndone (state S.Store conn.old) (state S.Store conn.new) }
+    ensures undone { AfterError result IsUndone (state S.Store conn.old) (state S.Store conn.new) }
     ensures mode { conn.old.in_transaction ≡ false → conn.new.in_transaction ≡ false }
     ensures named { result ≡ Err Unusable → ⊥ }
     ensures survives { AddsNone (state S.Store conn.old) (state S.Store conn.new) }
@@ -124,7 +124,7 @@ fn has_mark<S: Alter>(conn: &mut Connection<S>) -> Result<bool, ReplicaError>
     ensures fits { HasCleanDisk (state S.Store conn.new) → IfOk result (λ fits.
         IsTrue fits ↔ ((place : ℕ) × HasCursor (state S.Store conn.old).now.trees place)) }
     ensures same { Makes result IsUnchanged (state S.Store conn.old) (state S.Store conn.new) }
-    ensures undone { Leaves result IsUndone (state S.Store conn.old) (state S.Store conn.new) }
+    ensures undone { AfterError result IsUndone (state S.Store conn.old) (state S.Store conn.new) }
     ensures mode { conn.old.in_transaction ≡ false → conn.new.in_transaction ≡ false }
     ensures named { result ≡ Err Unusable → ⊥ }
     ensures survives { AddsNone (state S.Store conn.old) (state S.Store conn.new) }

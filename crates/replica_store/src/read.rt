@@ -9,7 +9,7 @@ ghost use Rattle.replica_store.specs.Causes.{ErrorHasCause};
 ghost use Rattle.replica_store.specs.Layout.{replica_schema};
 ghost use Rattle.replica_store.specs.Reading.{shown_row, shown_mark, IsMarkAnswer};
 ghost use Rattle.replica_store.specs.Reading.{is_natural, is_blob_value};
-ghost use Rattle.replica_store.specs.Steps.{IsUndone, Leaves, ListsTree};
+ghost use Rattle.replica_store.specs.Steps.{IsUndone, AfterError, ListsTree};
 
 use sqlite::types::ValueRef;
 use sqlite::{Alter, Connection, Error, Row};
@@ -19,7 +19,7 @@ pub(crate) fn stored_rows<S: Alter>(conn: &mut Connection<S>) -> Result<Vec<Row>
     requires { HasCleanDisk (state S.Store conn.old) → conn.old.schema ≡ replica_schema }
     ensures lists { ListsTree shown_row 0 result
         (state S.Store conn.old) (state S.Store conn.new) }
-    ensures undone { Leaves result IsUndone (state S.Store conn.old) (state S.Store conn.new) }
+    ensures undone { AfterError result IsUndone (state S.Store conn.old) (state S.Store conn.new) }
     ensures mode { conn.old.in_transaction ≡ false → conn.new.in_transaction ≡ false }
     ensures cause { ErrorHasCause result ((state S.Store conn.old).is_open ≡ false)
         (state S.Store conn.old) (state S.Store conn.new) }
@@ -32,7 +32,7 @@ pub(crate) fn stored_marks<S: Alter>(conn: &mut Connection<S>) -> Result<Vec<Row
     requires { HasCleanDisk (state S.Store conn.old) → conn.old.schema ≡ replica_schema }
     ensures lists { ListsTree shown_mark 2 result
         (state S.Store conn.old) (state S.Store conn.new) }
-    ensures undone { Leaves result IsUndone (state S.Store conn.old) (state S.Store conn.new) }
+    ensures undone { AfterError result IsUndone (state S.Store conn.old) (state S.Store conn.new) }
     ensures mode { conn.old.in_transaction ≡ false → conn.new.in_transaction ≡ false }
     ensures cause { ErrorHasCause result ((state S.Store conn.old).is_open ≡ false)
         (state S.Store conn.old) (state S.Store conn.new) }

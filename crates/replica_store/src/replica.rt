@@ -19,7 +19,7 @@ ghost use Rattle.replica_store.specs.{
     WhereClean,
     Reaches,
     Makes,
-    Leaves,
+    AfterError,
     AddsNone,
     LeavesCommitted,
     HoldsCommit,
@@ -150,7 +150,7 @@ impl<S: Alter> Replica<S> {
             ⊎ Commits changes.now cursor (state S.Store self.old.conn).committed.trees db }
         ensures survives { Survives (state S.Store self.old.conn) (state S.Store self.new.conn)
             (Commits changes.now cursor (state S.Store self.old.conn).committed.trees) }
-        ensures still { Leaves result StillHolds
+        ensures still { AfterError result StillHolds
             (state S.Store self.old.conn) (state S.Store self.new.conn) }
         ensures named { IfErr result (λ e. e ≢ Unusable) }
         ensures cause { StoreHasCause result
@@ -169,7 +169,7 @@ impl<S: Alter> Replica<S> {
         ensures same { Makes result IsUnchanged
             (state S.Store self.old.conn) (state S.Store self.new.conn) }
         ensures held { Reaches result HoldsReplica (state S.Store self.new.conn) }
-        ensures still { Leaves result StillHolds
+        ensures still { AfterError result StillHolds
             (state S.Store self.old.conn) (state S.Store self.new.conn) }
         ensures usable { HasCleanDisk (state S.Store self.new.conn) → result ≡ Err Unusable → ⊥ }
         ensures cause { StoreHasCause result ⊥
@@ -202,7 +202,7 @@ impl<S: Alter> Replica<S> {
         ensures same { Makes result IsUnchanged
             (state S.Store self.old.conn) (state S.Store self.new.conn) }
         ensures held { Reaches result HoldsReplica (state S.Store self.new.conn) }
-        ensures still { Leaves result StillHolds
+        ensures still { AfterError result StillHolds
             (state S.Store self.old.conn) (state S.Store self.new.conn) }
         ensures survives { AddsNone (state S.Store self.old.conn) (state S.Store self.new.conn) }
         ensures cause { StoreHasCause result ⊥
@@ -228,7 +228,7 @@ impl<S: Alter> Replica<S> {
             (Stores (state S.Store self.old.conn).committed.trees) → ⊥ }
         ensures reads { ReadsReplica result
             (state S.Store self.old.conn) (state S.Store self.new.conn) }
-        ensures still { Leaves result StillHolds
+        ensures still { AfterError result StillHolds
             (state S.Store self.old.conn) (state S.Store self.new.conn) }
         ensures cause { StoreHasCause result ⊥
             (state S.Store self.old.conn) (state S.Store self.new.conn) }

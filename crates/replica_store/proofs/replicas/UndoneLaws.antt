@@ -4,7 +4,7 @@ use Rattle.sqlite.specs.Order.{Row}
 use Rattle.sqlite_schema.specs.declared.command.Returning.{Returning}
 use Rattle.sqlite.specs.State.{Fails, FailsToQuery, FailsToShow, HasCleanDisk, IsNotRun, KeepsCommit, State}
 use Rattle.sqlite.specs.declared.error.Error.{Error}
-use Rattle.replica_store.specs.Steps.{IsUndone, Leaves}
+use Rattle.replica_store.specs.Steps.{IsUndone, AfterError}
 
 -- two calls of which neither commits
 pub keeps_then : (old mid new : State) → KeepsCommit old mid → KeepsCommit mid new → KeepsCommit old new
@@ -36,6 +36,6 @@ query_undoes old new sql params e (inr (c, it, shows)) = shows_undoes old new sq
 
 -- a query that fails changes nothing, or the transaction is undone
 pub query_leaves : {T : Type 0} (r : Result T Error) (old new : State) (sql : List ℕ) (params : Row)
-    → (HasCleanDisk new → IfErr r (FailsToQuery sql params old new)) → Leaves r IsUndone old new
+    → (HasCleanDisk new → IfErr r (FailsToQuery sql params old new)) → AfterError r IsUndone old new
 query_leaves (Ok x) old new sql params fails = λ _. tt
 query_leaves (Err e) old new sql params fails = λ clean. query_undoes old new sql params e (fails clean)
