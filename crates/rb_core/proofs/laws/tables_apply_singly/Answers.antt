@@ -8,6 +8,10 @@ returns c = λ limits schema events answers new s subscriber run found.
     let is = singly_run c.tables_apply_singly.ensures schema new (world_told schema events answers) s subscriber
     (c.runs_are_told.ensures.told limits schema events answers new run) found
     (c.bodies_are_changesets.ensures limits schema events answers new run).sequence
-    (c.accepted_is_gapless.ensures.run limits schema events answers new s subscriber run found).1 in
-    (is.0, is.1, is.2, asked_at _ (all_tables_asked schema events answers) s subscriber
-    (c.subscriptions_begin_as_asked.ensures schema events answers) found)
+    (c.accepted_is_gapless.ensures.run limits schema events answers new s subscriber run found).1 in (
+      is.0,
+      is.1,
+      is.2,
+      asked_at _ (all_tables_asked schema events answers) s subscriber
+          (c.subscriptions_begin_as_asked.ensures schema events answers) found,
+    )

@@ -7,6 +7,10 @@ pub returns : goal.returns
 returns c = λ limits schema events answers new s subscriber run found.
     let is = batched_run c.tables_are_of_batches.ensures schema new (world_told schema events answers) s subscriber
     (c.runs_are_told.ensures.told limits schema events answers new run) found
-    (c.accepted_is_gapless.ensures.run limits schema events answers new s subscriber run found).1 in
-    (is.0, is.1, is.2, asked_at _ (all_tables_asked schema events answers) s subscriber
-    (c.subscriptions_begin_as_asked.ensures schema events answers) found)
+    (c.accepted_is_gapless.ensures.run limits schema events answers new s subscriber run found).1 in (
+      is.0,
+      is.1,
+      is.2,
+      asked_at _ (all_tables_asked schema events answers) s subscriber
+          (c.subscriptions_begin_as_asked.ensures schema events answers) found,
+    )
