@@ -1,8 +1,8 @@
 #!/usr/bin/env python3
 """Reads the definitions of crates/*/specs, and prints them: sh docs/definitions.sh [NAME|CRATE]
 
-A comment stands directly above its definition. The definitions after it share it, up to the next comment: they are the
-parts of the last one, or variants of one thing.
+A comment stands directly above its definition. The definitions after it share it, up to the next comment, unless it is that
+of a record or of data: they are the parts of the last one, or variants of one thing.
 """
 import re
 import signal
@@ -63,7 +63,7 @@ def definitions_in(path):
     head = next((at for at, line in enumerate(lines) if not line.startswith("--")), 0)
     head = " ".join(comment_above(lines, head, ""))
     comment = before = last = part = inner = ""
-    group = []
+    group, of_type = [], False
     for at, line in enumerate(lines):
         if line.startswith("module _"):
             inner = "  "
@@ -78,6 +78,9 @@ def definitions_in(path):
         if above and not above[0].startswith("----"):
             comment, group = "\n".join(above), []
             before = last if GOES_ON.match(comment) else ""
+        elif of_type:
+            comment, before, group = "", "", []
+        of_type = bool(found[2])
         if comment:
             last = f"{before}\n{comment}".strip()
         group.append(found[2] or found[3])
