@@ -1,16 +1,17 @@
 #!/usr/bin/env python3
-"""Lists definitions of specs/ that a public contract cites and docs/DEFINITIONS.md doesn't have, a line each.
+"""Lists definitions of specs/ that a public contract cites and nothing explains, a line each.
 
-A contract is what `ensures` and `requires` say of a function that other crates can call: one that the crate's root
-exports, or a method of a type or trait that it exports. A definition counts if its file is one of specs/: types that
-the source declares have their docstrings. Nothing is the right answer.
+A comment explains a definition, its own or that of its group (specs.py), and so does an entry of docs/DEFINITIONS.md. A
+contract is what `ensures` and `requires` say of a function that other crates can call: one that the crate's root exports, or
+a method of a type or trait that it exports. A definition counts if its file is one of specs/: types that the source declares
+have their docstrings. Names of docs/DEFINITIONS.md that its files don't define are listed, too. Nothing is the right answer.
     checks/definitions.py       ends with status 1 where it lists a name
 """
 import re
 import sys
-from pathlib import Path
 
-ROOT = Path(__file__).resolve().parent.parent
+from specs import ROOT, all_definitions, book_entries
+
 IMPORT = re.compile(r"ghost use Rattle\.(\w+)\.specs\.([\w.]+?)(?:\.\{([^}]*)\}| as (\w+));")
 NESTED = re.compile(r"ghost use Rattle\.(\w+)\.specs\.\{((?:[^{};]|\{[^{}]*\})*)\};")
 INNER = re.compile(r"([\w.]+)\.(\{[^}]*\})")
@@ -77,29 +78,47 @@ def contracts(text, names, public):
                 clauses.append(later)
 
 
-def main():
+def cited():
+    """The names that public contracts cite, each with the crate and the file that it is brought in from."""
     ours = {path.name for path in (ROOT / "crates").iterdir()}
-    known = set(re.findall(r"\*([\w'-]+)\*", (ROOT / "docs/DEFINITIONS.md").read_text()))
-    sources = sorted((ROOT / "crates").glob("*/src/**/*.rt"))
-    if not sources or not known:
-        sys.exit("definitions.py: no source or no definition was found")
-    missing = set()
-    for path in sources:
+    for path in sorted((ROOT / "crates").glob("*/src/**/*.rt")):
         text = path.read_text()
         names, modules = imported(text, ours)
-        crate = path.relative_to(ROOT / "crates").parts[0]
-        exported, public = exports(ROOT / "crates" / crate)
+        exported, public = exports(ROOT / "crates" / path.relative_to(ROOT / "crates").parts[0])
         for clause in contracts(text, exported, path.stem in public):
             clause = re.sub(r"\b(ensures|requires) [\w-]+ \{", r"\1 {", clause)
             for alias, name in re.findall(r"\b(\w+)\.(\w+)", clause):
-                if alias in modules and name not in known:
-                    missing.add((name, modules[alias]))
+                if alias in modules:
+                    yield name, modules[alias]
             for word in WORD.findall(clause):
-                if word in names and names[word][0] not in known:
-                    missing.add(names[word])
-    for name, where in sorted(missing):
-        print(f"{name} ({where})")
-    sys.exit(1 if missing else 0)
+                if word in names:
+                    yield names[word]
 
 
-main()
+def main():
+    places = {}
+    for one in all_definitions():
+        places.setdefault(one.name, []).append(one)
+    entries, uses = list(book_entries()), set(cited())
+    if not places or not entries or not uses:
+        sys.exit("definitions.py: no definition, no entry or no contract was found")
+    explained, wrong = set(), []
+    for names, files, _ in entries:
+        for name in names:
+            found = [one for one in places.get(name, []) if any(map(one.stands_in, files))]
+            explained.update((one.crate, one.file, name) for one in found)
+            wrong += [] if found else [f"{name} (docs/DEFINITIONS.md: not in {', '.join(files)})"]
+    for name, where in uses:
+        crate, file = where.split(", ")
+        # a file can hand on what another file of its crate defines
+        found = [one for one in places.get(name, []) if one.crate == crate]
+        found = [one for one in found if one.file == file] or found
+        if not any(one.comment or (one.crate, one.file, name) in explained for one in found):
+            wrong.append(f"{name} ({where})")
+    for line in sorted(wrong):
+        print(line)
+    sys.exit(1 if wrong else 0)
+
+
+if __name__ == "__main__":
+    main()

@@ -233,8 +233,11 @@ fails 'edit_list.py, a line that is no part of an edit' 'out of place' python3 c
 rm crates/*/on-demand.edits
 fails 'edit_list.py, no lists' 'no crate' python3 checks/edit_list.py . --some 3 7
 fails 'files.sh, no such crate' 'no src/lib.rt' sh checks/files.sh none
+fails 'definitions.sh, no such name' 'neither a definition' sh docs/definitions.sh none
 find crates -name '*.antt' | while read -r file; do : >"$file"; done
 fails 'names.sh, no definitions' 'no definition' sh checks/names.sh
+fails 'definitions.py, no definitions' 'no definition' python3 checks/definitions.py
+fails 'definitions.sh, no definitions' 'no definition' sh docs/definitions.sh
 fails 'embed.py, an empty proof' 'not in the program' python3 checks/embed.py
 rm -r crates
 fails 'names.sh, no files' 'no file' sh checks/names.sh
