@@ -56,6 +56,9 @@ fails 'replicate.sh, no SEED' usage sh checks/replicate.sh
 fails 'drives.py, no such folder' 'no folder' env PROGRAM=/bin/true python3 checks/drives.py none
 fails 'replicate/run.sh, one operand' usage sh examples/replicate/run.sh none
 fails 'install.sh, no PREFIX' usage sh packaging/install.sh
+fails 'table.sh, no NAME' usage sh docs/table.sh
+fails 'table.sh, no such file' 'no docs/none.tsv' sh docs/table.sh none
+fails 'refusals.sh, no such crate' 'no row of none' sh docs/refusals.sh none
 
 # Nothing is built.
 fails 'all.sh, nothing is built' 'missing: crates/rb_run/out/rb_run (rt run), ' sh checks/all.sh
@@ -236,6 +239,12 @@ fails 'files.sh, no such crate' 'no src/lib.rt' sh checks/files.sh none
 find crates -name '*.antt' | while read -r file; do : >"$file"; done
 fails 'names.sh, no definitions' 'no definition' sh checks/names.sh
 fails 'embed.py, an empty proof' 'not in the program' python3 checks/embed.py
+sed -i '/Schema::admits\t/d' docs/refusals.tsv
+fails 'refusals.py, a call without a row' 'Schema::admits has no row' python3 checks/refusals.py
+sed -i 's/\tresult\t/\tanother\t/' docs/refusals.tsv
+fails 'refusals.py, no such clause' 'has no clause another' python3 checks/refusals.py
+: >docs/planted.tsv
+fails 'refusals.py, no row' 'no row was found' python3 checks/refusals.py
 rm -r crates
 fails 'names.sh, no files' 'no file' sh checks/names.sh
 
