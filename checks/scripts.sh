@@ -1,5 +1,5 @@
 #!/bin/sh
-# Checks that the scripts of checks/, refused/ and bench/ fail where they would test nothing. It tries each on a copy of
+# Checks that the scripts of checks/, docs/, refused/ and bench/ fail where they would test nothing. It tries each on a copy of
 # the repository with broken parts, such as a program that only exits: it must end with a status other than 0, and say why
 # on standard error. One line for each trial.
 #   sh checks/scripts.sh        needs gcc, g++, valgrind, python3, git, sqlite3 and its library; no prover and no built program
@@ -239,12 +239,14 @@ fails 'files.sh, no such crate' 'no src/lib.rt' sh checks/files.sh none
 find crates -name '*.antt' | while read -r file; do : >"$file"; done
 fails 'names.sh, no definitions' 'no definition' sh checks/names.sh
 fails 'embed.py, an empty proof' 'not in the program' python3 checks/embed.py
+sed -i 's/laws::every_text/laws::no_text/' docs/PROVED.md
+fails 'claims.py, no such law' 'no law no_text' python3 checks/claims.py
 sed -i '/Schema::admits\t/d' docs/refusals.tsv
-fails 'refusals.py, a call without a row' 'Schema::admits has no row' python3 checks/refusals.py
+fails 'claims.py, a call without a row' 'Schema::admits has no row' python3 checks/claims.py
 sed -i 's/\tresult\t/\tanother\t/' docs/refusals.tsv
-fails 'refusals.py, no such clause' 'has no clause another' python3 checks/refusals.py
+fails 'claims.py, no such clause' 'has no clause another' python3 checks/claims.py
 : >docs/planted.tsv
-fails 'refusals.py, no row' 'no row was found' python3 checks/refusals.py
+fails 'claims.py, no row' 'no row was found' python3 checks/claims.py
 rm -r crates
 fails 'names.sh, no files' 'no file' sh checks/names.sh
 

@@ -13,6 +13,7 @@ awk -F '\t' -v crate="${2:-}" '
         for (i = 1; i < NF; i++) if (length($i) > wide[i]) wide[i] = length($i)
     }
     END {
+        if (n < 2) exit 1
         for (k = 1; k <= n; k++) {
             columns = split(row[k], cell)
             line = ""
@@ -21,5 +22,4 @@ awk -F '\t' -v crate="${2:-}" '
             sub(/ +$/, "", line)
             print line
         }
-        exit n < 2
     }' "docs/$1.tsv" || fail "no row of $2" 2

@@ -1,11 +1,14 @@
 #!/usr/bin/env python3
-"""Checks docs/refusals.tsv and docs/planted.tsv against the sources.
+"""Checks docs/PROVED.md, docs/refusals.tsv and docs/planted.tsv against the sources.
 
-Of docs/refusals.tsv: each call is a public function of its crate, and each clause is one of its contract, where `result`
-is the clause without a name. Each test is a function or a module of its crate. Each function with a contract that other crates can
-call, and that returns a Result or an Option, has a row. A function counts if the crate's root exports it or its type, or
-if C can call it. Laws don't count. Of docs/planted.tsv: each crate is there, and has one row.
-    checks/refusals.py          prints what is wrong, a line each, and ends with status 1 if there is anything
+Of docs/PROVED.md: each law that is named as `laws::NAME` is one of a crate of its section, or of any crate where the section
+names none. Where clauses follow a function and a colon, the function has these.
+Of docs/refusals.tsv: each call is a public function of its crate, and each clause is one of its contract, where `result` is
+the clause without a name. Each test is a function or a module of its crate. Each function with a contract that other crates
+can call, and that returns a Result or an Option, has a row. A function counts if the crate's root exports it or its type, or
+if C can call it. Laws don't count.
+Of docs/planted.tsv: each crate is there, and has one row.
+    checks/claims.py            prints what is wrong, a line each, and ends with status 1 if there is anything
 """
 import re
 import sys
@@ -16,8 +19,6 @@ WORD = re.compile(r"[A-Za-z_]\w*")
 BLOCK = re.compile(r"(?:pub(?:\(\w+\))? )?(?:unsafe )?(impl|trait)\b(?:<.*?>)? (.*)")
 FUNCTION = re.compile(r"\s*(pub(?:\(\w+\))? )?((?:unsafe |const |extern \"C\" )*)fn (\w+)")
 CLAUSE = re.compile(r"\s*ensures\*?(?: (\w+))? \{")
-# what ends a signature
-BODY = re.compile(r"(.*[^\s{].*)?[;{]\s*(\{\})?$")
 
 
 class Function:
@@ -80,8 +81,24 @@ def rows(name, columns):
     for line in lines[1:]:
         cells = line.split("\t")
         if len(cells) != columns:
-            sys.exit(f"refusals.py: {name}: {len(cells)} cells, not {columns}: {line}")
+            sys.exit(f"claims.py: {name}: {len(cells)} cells, not {columns}: {line}")
         yield cells
+
+
+def wrong_proved(known, laws):
+    """What is wrong in docs/PROVED.md."""
+    for section in re.split(r"^## ", (ROOT / "docs/PROVED.md").read_text(), flags=re.M):
+        text = " ".join(section.split())
+        crates = [crate for crate in WORD.findall(section.partition("\n")[0]) if crate in known] or list(known)
+        for crate, law in re.findall(r"`(?:(\w+)::)?laws::(\w+)`", text):
+            if not any(law in laws[one] for one in ([crate] if crate else crates)):
+                yield f"PROVED.md: no law {law}"
+        for call, clauses in re.findall(r"`((?:\w+::)*\w+)`: ((?:`\w+`(?:, )?)+)", text):
+            named = [f for crate in known for f in known[crate] if call in (f.call, f.name)]
+            there = named + [laws[crate][name] for crate in laws for name in laws[crate] if call.endswith(f"laws::{name}")]
+            for clause in re.findall(r"\w+", clauses):
+                if call not in known and not any(clause in f.clauses for f in there):
+                    yield f"PROVED.md: {call} has no clause {clause}"
 
 
 def wrong_refusals(known, exported):
@@ -121,16 +138,17 @@ def wrong_planted():
 
 
 def main():
-    known, exported = {}, {}
-    for crate in sorted((ROOT / "crates").iterdir()):
-        paths = sorted(path for path in crate.glob("src/**/*.rt") if path.stem not in ("laws", "courses"))
-        known[crate.name] = [f for path in paths for f in functions(path)]
+    known, exported, laws = {}, {}, {}
+    for crate in sorted(path for path in (ROOT / "crates").iterdir() if (path / "src").is_dir()):
+        found = {path: list(functions(path)) for path in sorted(crate.glob("src/**/*.rt"))}
+        known[crate.name] = [f for path in found if path.stem not in ("laws", "courses") for f in found[path]]
+        laws[crate.name] = {f.name: f for path in found if path.stem == "laws" for f in found[path]}
         exported[crate.name] = exports(crate)
     if not any(known.values()) or not list(rows("refusals.tsv", 6)) or not list(rows("planted.tsv", 5)):
-        sys.exit("refusals.py: no function or no row was found")
-    wrong = [*wrong_refusals(known, exported), *wrong_planted()]
+        sys.exit("claims.py: no function or no row was found")
+    wrong = [*wrong_proved(known, laws), *wrong_refusals(known, exported), *wrong_planted()]
     for line in wrong:
-        print(f"refusals.py: {line}", file=sys.stderr)
+        print(f"claims.py: {line}", file=sys.stderr)
     sys.exit(1 if wrong else 0)
 
 
