@@ -69,6 +69,7 @@ check awk sh checks/files.sh
 check '' python3 checks/embed.py
 check '' python3 checks/definitions.py
 check '' sh docs/definitions.sh
+check '' python3 checks/claims.py
 check '' python3 checks/canonical.py
 check '' python3 checks/groups.py
 check '' python3 checks/inverses.py

@@ -1,5 +1,5 @@
-# What the scripts of checks/, refused/ and bench/ begin with, which read this file. It goes to the top of the repository,
-# and makes the folder $work, which is removed when the script ends. RT names the prover's command where it isn't `rt`.
+# What the scripts of checks/, docs/, refused/ and bench/ begin with, which read this file. It goes to the top of the
+# repository, and makes the folder $work, which is removed when the script ends. RT names the prover's command where it isn't `rt`.
 : "${RT:=rt}"
 # how many checks were made, and how many of them failed
 count=0 bad=0

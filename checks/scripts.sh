@@ -1,5 +1,5 @@
 #!/bin/sh
-# Checks that the scripts of checks/, refused/ and bench/ fail where they would test nothing. It tries each on a copy of
+# Checks that the scripts of checks/, docs/, refused/ and bench/ fail where they would test nothing. It tries each on a copy of
 # the repository with broken parts, such as a program that only exits: it must end with a status other than 0, and say why
 # on standard error. One line for each trial.
 #   sh checks/scripts.sh        needs gcc, g++, valgrind, python3, git, sqlite3 and its library; no prover and no built program
@@ -56,6 +56,9 @@ fails 'replicate.sh, no SEED' usage sh checks/replicate.sh
 fails 'drives.py, no such folder' 'no folder' env PROGRAM=/bin/true python3 checks/drives.py none
 fails 'replicate/run.sh, one operand' usage sh examples/replicate/run.sh none
 fails 'install.sh, no PREFIX' usage sh packaging/install.sh
+fails 'table.sh, no NAME' usage sh docs/table.sh
+fails 'table.sh, no such file' 'no docs/none.tsv' sh docs/table.sh none
+fails 'refusals.sh, no such crate' 'no row of none' sh docs/refusals.sh none
 
 # Nothing is built.
 fails 'all.sh, nothing is built' 'missing: crates/rb_run/out/rb_run (rt run), ' sh checks/all.sh
@@ -239,6 +242,14 @@ fails 'names.sh, no definitions' 'no definition' sh checks/names.sh
 fails 'definitions.py, no definitions' 'no definition' python3 checks/definitions.py
 fails 'definitions.sh, no definitions' 'no definition' sh docs/definitions.sh
 fails 'embed.py, an empty proof' 'not in the program' python3 checks/embed.py
+sed -i 's/laws::every_text/laws::no_text/' docs/PROVED.md
+fails 'claims.py, no such law' 'no law no_text' python3 checks/claims.py
+sed -i '/Schema::admits\t/d' docs/refusals.tsv
+fails 'claims.py, a call without a row' 'Schema::admits has no row' python3 checks/claims.py
+sed -i 's/\tresult\t/\tanother\t/' docs/refusals.tsv
+fails 'claims.py, no such clause' 'has no clause another' python3 checks/claims.py
+: >docs/planted.tsv
+fails 'claims.py, no row' 'no row was found' python3 checks/claims.py
 rm -r crates
 fails 'names.sh, no files' 'no file' sh checks/names.sh
 

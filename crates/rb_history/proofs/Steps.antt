@@ -22,7 +22,7 @@ use Rattle.logbook.specs.Pages.{Cell, cell}
 use Rattle.logbook.specs.Kept.{halved, part, home, roster}
 use Rattle.logbook.proofs.Roster.{prefix_out, prefix_in, resets, joined, Reset, at_home, comes_home}
 use Rattle.logbook.proofs.Roster as rost
-use Rattle.rb_history.specs.Kept.{logs, made_by, Counts, top_owns, seats_own, whole_owns, front_owns, hand_owns}
+use Rattle.rb_history.specs.Kept.{logs, count_under, HasCounts, top_owns, seats_own, whole_owns, front_owns, hand_owns}
 use Rattle.rb_history.proofs.Lists.{prefix_shorter, length_codes, counts_added, counts_kept, counts_seated, counts_none, none_yet}
 
 module _ {M : Type 1} {𝓤 : Ura M} (𝓛 : Logic 𝓤) where
@@ -65,8 +65,8 @@ module _ {M : Type 1} {𝓤 : Ura M} (𝓛 : Logic 𝓤) {E : Type 0} (cv : Code
 
   infix 26 ◌⊢◌
   infixr 35 ◌∗◌
-  seating : (δ : ℕ) (cs : List Cell) (log : List (ℕ × E)) → Counts cs log → sem 𝓛 (roster δ 0 cs) ⊢ sem 𝓛 (base.Fml.fex (List Cell) (seats_own δ log))
-  seating δ cs log all = qed 𝓛 (‵ (roster δ 0 cs) ∷ []) ∵ nothing ! $ fpack ! (Counts cs log) (λ _. ftrue) all $ move ! (1 ∷ 0 ∷ []) $ fjoin ! $ fpack ! (List Cell) (seats_own δ log) cs $ done !
+  seating : (δ : ℕ) (cs : List Cell) (log : List (ℕ × E)) → HasCounts cs log → sem 𝓛 (roster δ 0 cs) ⊢ sem 𝓛 (base.Fml.fex (List Cell) (seats_own δ log))
+  seating δ cs log all = qed 𝓛 (‵ (roster δ 0 cs) ∷ []) ∵ nothing ! $ fpack ! (HasCounts cs log) (λ _. ftrue) all $ move ! (1 ∷ 0 ∷ []) $ fjoin ! $ fpack ! (List Cell) (seats_own δ log) cs $ done !
 
   pub begins : emp 𝓤 ⊢ H.⇛ (ex 𝓤 (λ (name : ℕ × ℕ). whole name []))
   unfolding whole_owns top_owns
@@ -120,7 +120,7 @@ module _ {M : Type 1} {𝓤 : Ura M} (𝓛 : Logic 𝓤) {E : Type 0} (cv : Code
 
   -- ---- hands
   abbrev Enrolled : ℕ × ℕ → List (ℕ × E) → ℕ → SProp 𝓤
-  Enrolled name log k = guard 𝓤 (made_by k log ≡ 0) (whole name log ∗ hand name k 0)
+  Enrolled name log k = guard 𝓤 (count_under k log ≡ 0) (whole name log ∗ hand name k 0)
 
   pub enrolls : (name : ℕ × ℕ) (log : List (ℕ × E)) → whole name log ⊢ H.⇛ (ex 𝓤 (Enrolled name log))
   unfolding whole_owns hand_owns
@@ -131,7 +131,7 @@ module _ {M : Type 1} {𝓤 : Ura M} (𝓛 : Logic 𝓤) {E : Type 0} (cv : Code
       use1 𝓛 (‵ (base.Fml.fex (List Cell) (seats_own δ log))) (seating δ (set (cs ++ (0, false) ∷ []) k (0, true)) log (counts_seated cs log counts)) $ move ! (2 ∷ 0 ∷ []) $ join ! $
       now ! $ show ! (Enrolled name log) k $ check ! (none_yet cs log counts) $ done !))
 
-  pub audits : (name : ℕ × ℕ) (log : List (ℕ × E)) (k n : ℕ) → whole name log ∗ hand name k n ⊢ H.⇛ (guard 𝓤 (made_by k log ≡ n) (whole name log ∗ hand name k n))
+  pub audits : (name : ℕ × ℕ) (log : List (ℕ × E)) (k n : ℕ) → whole name log ∗ hand name k n ⊢ H.⇛ (guard 𝓤 (count_under k log ≡ n) (whole name log ∗ hand name k n))
   unfolding whole_owns hand_owns
   audits name log k n = let δ : ℕ = name.1 in
       qed 𝓛 ((‵ (top_owns cv.code name.0 log) ⊛ ‵ (base.Fml.fex (List Cell) (seats_own δ log))) ∷ ‵ (part δ k quarter n) ∷ []) ∵ updating ! $ split ! $ move ! (1 ∷ []) $ fpick ! (λ cs. fsplit ! $ move ! (1 ∷ []) $ fpick ! (λ counts. drop ! $
@@ -140,10 +140,10 @@ module _ {M : Type 1} {𝓤 : Ura M} (𝓛 : Logic 𝓤) {E : Type 0} (cv : Code
       use2 𝓛 (given (n ≡ (cell cs k).0) (‵ (part δ k full_share n))) (joined 𝓛 δ k n (cell cs k).0) $ learn ! (λ same.
       use1 𝓛 (later (‵ (part δ k quarter n) ⊛ ‵ (part δ k three_quarters n))) (via 𝓤 _ (resets 𝓛 δ k n n) (basic 𝓛 _)) $ await ! tt $ split ! $ move ! (2 ∷ []) $
       use1 𝓛 (raw (Reset 𝓛 δ 0 cs k k n)) (all_e 𝓤 (Reset 𝓛 δ 0 cs k k) n) $ move ! (2 ∷ 0 ∷ []) $ use2 𝓛 (‵ (roster δ 0 (set cs k (n, true)))) (apply∗ 𝓤 (sem 𝓛 (part δ k three_quarters n)) (sem 𝓛 (roster δ 0 (set cs k (n, true))))) $
-      let count : made_by k log ≡ n = sym (counts.all k) ∙ sym same in
+      let count : count_under k log ≡ n = sym (counts.all k) ∙ sym same in
       use1 𝓛 (‵ (base.Fml.fex (List Cell) (seats_own δ log))) (seating δ (set cs k (n, true)) log (counts_kept cs log k n here (sym count) counts)) $ move ! (2 ∷ 0 ∷ []) $ join ! $ now ! $ check ! count $ done !))))
 
-  pub adds : (name : ℕ × ℕ) (log : List (ℕ × E)) (k n : ℕ) (x : E) → whole name log ∗ hand name k n ⊢ H.⇛ (guard 𝓤 (made_by k log ≡ n) (whole name (log ++ (k, x) ∷ []) ∗ hand name k (n + 1)))
+  pub adds : (name : ℕ × ℕ) (log : List (ℕ × E)) (k n : ℕ) (x : E) → whole name log ∗ hand name k n ⊢ H.⇛ (guard 𝓤 (count_under k log ≡ n) (whole name (log ++ (k, x) ∷ []) ∗ hand name k (n + 1)))
   unfolding whole_owns hand_owns
   adds name log k n x = let δ : ℕ = name.1 in let log' : List (ℕ × E) = log ++ (k, x) ∷ [] in
       qed 𝓛 ((‵ (top_owns cv.code name.0 log) ⊛ ‵ (base.Fml.fex (List Cell) (seats_own δ log))) ∷ ‵ (part δ k quarter n) ∷ []) ∵ updating ! $ split ! $ move ! (1 ∷ []) $ fpick ! (λ cs. fsplit ! $ move ! (1 ∷ []) $ fpick ! (λ counts. drop ! $
@@ -152,9 +152,9 @@ module _ {M : Type 1} {𝓤 : Ura M} (𝓛 : Logic 𝓤) {E : Type 0} (cv : Code
       use2 𝓛 (given (n ≡ (cell cs k).0) (‵ (part δ k full_share n))) (joined 𝓛 δ k n (cell cs k).0) $ learn ! (λ same.
       use1 𝓛 (later (‵ (part δ k quarter (n + 1)) ⊛ ‵ (part δ k three_quarters (n + 1)))) (via 𝓤 _ (resets 𝓛 δ k n (n + 1)) (basic 𝓛 _)) $ await ! tt $ split ! $ move ! (2 ∷ []) $
       use1 𝓛 (raw (Reset 𝓛 δ 0 cs k k (n + 1))) (all_e 𝓤 (Reset 𝓛 δ 0 cs k k) (n + 1)) $ move ! (2 ∷ 0 ∷ []) $ use2 𝓛 (‵ (roster δ 0 (set cs k (n + 1, true)))) (apply∗ 𝓤 (sem 𝓛 (part δ k three_quarters (n + 1))) (sem 𝓛 (roster δ 0 (set cs k (n + 1, true))))) $
-      let count : made_by k log ≡ n = sym (counts.all k) ∙ sym same in
+      let count : count_under k log ≡ n = sym (counts.all k) ∙ sym same in
       rewrite ! 0 (λ (m : ℕ). ‵ (roster δ 0 (set cs k (m + 1, true)))) (sym count) refl $
-      use1 𝓛 (‵ (base.Fml.fex (List Cell) (seats_own δ log'))) (seating δ (set cs k (made_by k log + 1, true)) log' (counts_added cs log k x here counts)) $ move ! (2 ∷ []) $
+      use1 𝓛 (‵ (base.Fml.fex (List Cell) (seats_own δ log'))) (seating δ (set cs k (count_under k log + 1, true)) log' (counts_added cs log k x here counts)) $ move ! (2 ∷ []) $
       use1 𝓛 (later (‵ (top_owns cv.code name.0 log'))) (via 𝓤 _ (top_grows name.0 log (k, x)) (basic 𝓛 _)) $ await ! tt $ move ! (0 ∷ 1 ∷ []) $ join ! $ now ! $ check ! count $ done !))))
 
 pub front_keyless : {E : Type 0} (c : E → Gv) (name : ℕ × ℕ) (log : List (ℕ × E)) → Keyless (front_owns c name log)

@@ -3,7 +3,7 @@
 ghost use Rattle.std.specs.Prelude.{◌≡◌, ◌+◌, ◌++◌, ◌∷◌, [], ℕ, List};
 ghost use mathlib.Core.List.{IsPrefix};
 ghost use base.Stored.{coded_list, coded×, coded_ℕ};
-ghost use Rattle.rb_history.specs.Kept.{whole_owns, made_by};
+ghost use Rattle.rb_history.specs.Kept.{whole_owns, count_under};
 
 use crate::front::Front;
 use crate::hand::Hand;
@@ -44,7 +44,7 @@ impl<E> Chronicle<E> {
             × (self.new.log ≡ self.old.log ++ (hand.old.number, entry.now) ∷ [])
             × (hand.new.name ≡ hand.old.name) × (hand.new.number ≡ hand.old.number)
             × (hand.new.made ≡ hand.old.made + 1) × (result.name ≡ self.old.name)
-            × (result.made ≡ 0) × (made_by result.number self.new.log ≡ 0) }
+            × (result.made ≡ 0) × (count_under result.number self.new.log ≡ 0) }
     {
         Hand {
             marker: PhantomData,
@@ -64,7 +64,7 @@ impl<E> Chronicle<E> {
     pub fn audit(&mut self, hand: &mut Hand<E>)
         requires { hand.old.name ≡ self.old.name }
         ensures { (self.new ≡ self.old) × (hand.new ≡ hand.old)
-            × (made_by hand.old.number self.old.log ≡ hand.old.made) }
+            × (count_under hand.old.number self.old.log ≡ hand.old.made) }
     {}
 
     /// The list as it is now, as a front.

@@ -18,7 +18,7 @@ use denote.Steps.{nothing, heard, opens, closes}
 use denote.Param.{param, layouts}
 use denote.Triple.Walked.{Stays, stay_dropped, stay_ref, walk_of, Goes-dropped, Goes-ref}
 use Rattle.atomic_table.proofs.Walks.{proved, leaves}
-use Rattle.rb_history.specs.Kept.{whole_owns, hand_owns, made_by}
+use Rattle.rb_history.specs.Kept.{whole_owns, hand_owns, count_under}
 use Rattle.rb_history.specs.contracts.chronicle.Chronicle as Chronicle
 use Rattle.rb_history.proofs.Steps as steps
 use Rattle.rb_history.specs.contracts.hand.Hand as Hand
@@ -42,7 +42,7 @@ append_spec 𝓤 𝓛 𝓜 𝓡 wired T L =
     enter ! 𝓣.C 𝓣.Λ fn (vptr b o ∷ vptr p q ∷ vptr a.1.1.0.ref_ptr.0 a.1.1.0.ref_ptr.1 ∷ []) Post $ alloc_all ! (λ l. pass_all ! refl ((tt, tt), ((tt, tt), ((tt, tt), tt))) $
     opens ! tt S b o (λ cs. move ! (5 ∷ 6 ∷ 7 ∷ []) $ opens ! tt F p q (λ ds. move ! (1 ∷ []) $ fsplit ! $ move ! (7 ∷ []) $ fsplit ! $ move ! (1 ∷ 3 ∷ []) $
     rewrite ! 1 (λ (k : ℕ × ℕ). ‵ (hand_owns k h.number h.made)) same refl $
-    use2 𝓛 (later (given (made_by h.number me.log ≡ h.made) (‵ (whole_owns T.coded.code me.name me'.log) ⊛ ‵ (hand_owns me.name h.number h'.made)))) (steps.adds 𝓛 T.coded me.name me.log h.number h.made x) $ await ! tt $ learn ! (λ count. split ! $
+    use2 𝓛 (later (given (count_under h.number me.log ≡ h.made) (‵ (whole_owns T.coded.code me.name me'.log) ⊛ ‵ (hand_owns me.name h.number h'.made)))) (steps.adds 𝓛 T.coded me.name me.log h.number h.made x) $ await ! tt $ learn ! (λ count. split ! $
     rewrite ! 1 (λ (k : ℕ × ℕ). ‵ (hand_owns k h.number h'.made)) (sym same) refl $
     move ! (2 ∷ 0 ∷ []) $ fjoin ! $ move ! (2 ∷ 1 ∷ []) $ fjoin ! $ move ! (2 ∷ 0 ∷ 3 ∷ 4 ∷ 5 ∷ []) $ closes ! tt F h' ds p q $ move ! (4 ∷ 3 ∷ 5 ∷ 6 ∷ 7 ∷ []) $ closes ! tt S me' cs b o $
     sets ! (of_opd ! (unit_lit !)) refl (tt, tt) $ returns ! (look_at ! 0 refl) $ free_all ! refl $

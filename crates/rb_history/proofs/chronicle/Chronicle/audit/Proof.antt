@@ -16,7 +16,7 @@ use denote.Steps.{nothing, heard, opens, closes}
 use denote.Param.{param, layouts}
 use denote.Triple.Walked.{Stays, stay_ref, walk_of, Goes-ref}
 use Rattle.atomic_table.proofs.Walks.{proved, leaves}
-use Rattle.rb_history.specs.Kept.{whole_owns, hand_owns, made_by}
+use Rattle.rb_history.specs.Kept.{whole_owns, hand_owns, count_under}
 use Rattle.rb_history.specs.contracts.chronicle.Chronicle as Chronicle
 use Rattle.rb_history.proofs.Steps as steps
 use Rattle.rb_history.specs.contracts.hand.Hand as Hand
@@ -34,13 +34,13 @@ audit_spec 𝓤 𝓛 𝓜 𝓡 wired T L =
     (λ κs. (mut_vals, (mut_vals, tt))) (λ κs. (mut_Tells (named 0) κs.0 S, (mut_Tells (named 1) κs.1.0 F, tt))) (λ κs qs bounds a gh are.
     let b : ℕ = a.0.ref_ptr.0 in let o : ℕ = a.0.ref_ptr.1 in let me : S.Denot = a.0.now in let p : ℕ = a.1.0.ref_ptr.0 in let q : ℕ = a.1.0.ref_ptr.1 in let h : F.Denot = a.1.0.now in let me' : S.Denot = me in let h' : F.Denot = h in
     let y : (walk_of 𝓛 En hs c).Ghost = ((κs, qs, bounds, a, (vptr b o ∷ [], (vptr p q ∷ [], tt))), gh) in let Post : Val → SProp 𝓤 = (walk_of 𝓛 En hs c).post y in
-    let Told : Type 0 = (me ≡ me) × (h ≡ h) × (made_by h.number me.log ≡ h.made) in
+    let Told : Type 0 = (me ≡ me) × (h ≡ h) × (count_under h.number me.log ≡ h.made) in
     qed 𝓛 (((‵ (flft κs.0 qs.0) ⊛ ‵ (flft κs.1.0 qs.1.0) ⊛ ‵ (flft κs.1.1.0 qs.1.1.0) ⊛ ‵ ftrue) ⊛ ‵ (owns (types_at En.signature.params κs) a y.0.4)) ∷ raw (fact 𝓤 _) ∷ raw (fact 𝓤 (h.name ≡ me.name)) ∷ []) ∵ keep ! (2 ∷ 0 ∷ []) $ heard ! (h.name ≡ me.name) (λ same. split ! $ split ! $
     move ! (1 ∷ []) $ split ! $ move ! (3 ∷ []) $ fsplit ! $ fsplit3 ! $ drop ! $ move ! (2 ∷ []) $ fsplit ! $ fsplit3 ! $ drop ! $ keep ! (3 ∷ 4 ∷ 7 ∷ 0 ∷ 1 ∷ 5 ∷ 6 ∷ []) $
     enter ! 𝓣.C 𝓣.Λ fn (vptr b o ∷ vptr p q ∷ []) Post $ alloc_all ! (λ l. pass_all ! refl ((tt, tt), ((tt, tt), tt)) $
     opens ! tt S b o (λ cs. move ! (5 ∷ 6 ∷ 7 ∷ []) $ opens ! tt F p q (λ ds. move ! (1 ∷ []) $ fsplit ! $ move ! (7 ∷ []) $ fsplit ! $ move ! (1 ∷ 3 ∷ []) $
     rewrite ! 1 (λ (k : ℕ × ℕ). ‵ (hand_owns k h.number h.made)) same refl $
-    use2 𝓛 (later (given (made_by h.number me.log ≡ h.made) (‵ (whole_owns T.coded.code me.name me'.log) ⊛ ‵ (hand_owns me.name h.number h'.made)))) (steps.audits 𝓛 T.coded me.name me.log h.number h.made) $ await ! tt $ learn ! (λ count. split ! $
+    use2 𝓛 (later (given (count_under h.number me.log ≡ h.made) (‵ (whole_owns T.coded.code me.name me'.log) ⊛ ‵ (hand_owns me.name h.number h'.made)))) (steps.audits 𝓛 T.coded me.name me.log h.number h.made) $ await ! tt $ learn ! (λ count. split ! $
     rewrite ! 1 (λ (k : ℕ × ℕ). ‵ (hand_owns k h.number h'.made)) (sym same) refl $
     move ! (2 ∷ 0 ∷ []) $ fjoin ! $ move ! (2 ∷ 1 ∷ []) $ fjoin ! $ move ! (2 ∷ 0 ∷ 3 ∷ 4 ∷ 5 ∷ []) $ closes ! tt F h' ds p q $ move ! (4 ∷ 3 ∷ 5 ∷ 6 ∷ 7 ∷ []) $ closes ! tt S me' cs b o $
     sets ! (of_opd ! (unit_lit !)) refl (tt, tt) $ returns ! (look_at ! 0 refl) $ free_all ! refl $

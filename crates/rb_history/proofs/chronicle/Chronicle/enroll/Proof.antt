@@ -20,7 +20,7 @@ use denote.Param.{param, layouts}
 use denote.Triple.Walked.{Stays, stay_dropped, stay_ref, walk_of, Goes-dropped, Goes-ref}
 use Rattle.atomic_table.proofs.Walks.{proved, leaves}
 use Rattle.logbook.proofs.Fields.{token, Token, token_made}
-use Rattle.rb_history.specs.Kept.{whole_owns, hand_owns, made_by}
+use Rattle.rb_history.specs.Kept.{whole_owns, hand_owns, count_under}
 use Rattle.rb_history.specs.contracts.chronicle.Chronicle as Chronicle
 use Rattle.rb_history.proofs.Steps as steps
 use Rattle.rb_history.specs.contracts.hand.Hand as Hand
@@ -43,9 +43,9 @@ enroll_spec 𝓤 𝓛 𝓜 𝓡 wired T L =
     enter ! 𝓣.C 𝓣.Λ fn (vptr b o ∷ vptr p q ∷ vptr a.1.1.0.ref_ptr.0 a.1.1.0.ref_ptr.1 ∷ []) Post $ alloc_all ! (λ l. pass_all ! refl ((tt, tt), ((tt, tt), ((tt, tt), tt))) $
     opens ! tt S b o (λ cs. move ! (5 ∷ 6 ∷ 7 ∷ []) $ opens ! tt F p q (λ ds. move ! (1 ∷ []) $ fsplit ! $ move ! (7 ∷ []) $ fsplit ! $ move ! (1 ∷ 3 ∷ []) $
     rewrite ! 1 (λ (k : ℕ × ℕ). ‵ (hand_owns k h.number h.made)) same refl $
-    use2 𝓛 (later (given (made_by h.number me.log ≡ h.made) (‵ (whole_owns T.coded.code me.name me'.log) ⊛ ‵ (hand_owns me.name h.number h'.made)))) (steps.adds 𝓛 T.coded me.name me.log h.number h.made x) $ await ! tt $ learn ! (λ count. split ! $
-    use1 𝓛 (later (some (λ (k : ℕ). given (made_by k me'.log ≡ 0) (‵ (whole_owns T.coded.code me.name me'.log) ⊛ ‵ (hand_owns me.name k 0))))) (steps.enrolls 𝓛 T.coded me.name me'.log) $ await ! tt $ pick ! (λ k. learn ! (λ none. split ! $
-    let r : F.Denot = record { marker = record {}; name = me.name; number = k; made = 0 } in let Told : Type 0 = (me.name ≡ me.name) × (me'.log ≡ me'.log) × (h.name ≡ h.name) × (h.number ≡ h.number) × (h'.made ≡ h'.made) × (r.name ≡ r.name) × (r.made ≡ r.made) × (made_by k me'.log ≡ 0) in
+    use2 𝓛 (later (given (count_under h.number me.log ≡ h.made) (‵ (whole_owns T.coded.code me.name me'.log) ⊛ ‵ (hand_owns me.name h.number h'.made)))) (steps.adds 𝓛 T.coded me.name me.log h.number h.made x) $ await ! tt $ learn ! (λ count. split ! $
+    use1 𝓛 (later (some (λ (k : ℕ). given (count_under k me'.log ≡ 0) (‵ (whole_owns T.coded.code me.name me'.log) ⊛ ‵ (hand_owns me.name k 0))))) (steps.enrolls 𝓛 T.coded me.name me'.log) $ await ! tt $ pick ! (λ k. learn ! (λ none. split ! $
+    let r : F.Denot = record { marker = record {}; name = me.name; number = k; made = 0 } in let Told : Type 0 = (me.name ≡ me.name) × (me'.log ≡ me'.log) × (h.name ≡ h.name) × (h.number ≡ h.number) × (h'.made ≡ h'.made) × (r.name ≡ r.name) × (r.made ≡ r.made) × (count_under k me'.log ≡ 0) in
     use0 𝓛 (‵ ((Token R).own_val (record {}, tt) (token ∷ []))) (token_made R 𝓛) $ move ! (0 ∷ 2 ∷ []) $ fjoin ! $
     rewrite ! 2 (λ (k : ℕ × ℕ). ‵ (hand_owns k h.number h'.made)) (sym same) refl $
     move ! (3 ∷ 1 ∷ []) $ fjoin ! $ move ! (3 ∷ 2 ∷ []) $ fjoin ! $ move ! (3 ∷ 0 ∷ 4 ∷ 5 ∷ 6 ∷ []) $ closes ! tt F h' ds p q $ move ! (5 ∷ 3 ∷ 6 ∷ 7 ∷ 8 ∷ []) $ closes ! tt S me' cs b o $

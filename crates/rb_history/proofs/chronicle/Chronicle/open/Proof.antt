@@ -16,7 +16,7 @@ use denote.Param.{param, layouts}
 use denote.Triple.Walked.{walk_of}
 use Rattle.atomic_table.proofs.Walks.{proved, leaves}
 use Rattle.logbook.proofs.Fields.{token, Token, token_made}
-use Rattle.rb_history.specs.Kept.{whole_owns, hand_owns, made_by}
+use Rattle.rb_history.specs.Kept.{whole_owns, hand_owns, count_under}
 use Rattle.rb_history.specs.contracts.chronicle.Chronicle as Chronicle
 use Rattle.rb_history.specs.contracts.hand.Hand as Hand
 use Rattle.rb_history.proofs.Steps as steps
@@ -34,7 +34,7 @@ open_spec 𝓤 𝓛 𝓜 𝓡 wired T L =
     qed 𝓛 ((raw (denote.Triple.Entry.alive 𝓛 En.signature κs qs) ⊛ ‵ ftrue) ∷ raw ((c κs a).requires gh) ∷ []) ∵ split ! $ keep ! (0 ∷ []) $
     enter ! 𝓣.C 𝓣.Λ fn [] Post $ alloc_all ! (λ l. pass_all ! refl tt $
     use0 𝓛 (later (some (λ (η : ℕ × ℕ). ‵ (whole_owns T.coded.code η [])))) (steps.begins 𝓛 T.coded) $ await ! tt $ pick ! (λ η.
-    use1 𝓛 (later (some (λ (k : ℕ). given (made_by {E = T.Denot} k [] ≡ 0) (‵ (whole_owns T.coded.code η []) ⊛ ‵ (hand_owns η k 0))))) (steps.enrolls 𝓛 T.coded η []) $ await ! tt $ pick ! (λ k. learn ! (λ none. split ! $
+    use1 𝓛 (later (some (λ (k : ℕ). given (count_under {E = T.Denot} k [] ≡ 0) (‵ (whole_owns T.coded.code η []) ⊛ ‵ (hand_owns η k 0))))) (steps.enrolls 𝓛 T.coded η []) $ await ! tt $ pick ! (λ k. learn ! (λ none. split ! $
     let r : S.Denot = record { marker = record {}; name = η; log = [] } in let h : F.Denot = record { marker = record {}; name = η; number = k; made = 0 } in
     let v : Val = vstruct (vcons token (vcons token vnil)) in let Rs : List RattleType = S ∷ F ∷ [] in let Told : Type 0 = (r.log ≡ r.log) × (h.name ≡ h.name) × (h.made ≡ h.made) in
     sets ! (agg ! (no_more !)) refl (tt, tt) $ sets ! (agg ! (and_then ! (get ! refl) (no_more !))) refl (tt, (tt, tt)) $ sets ! (agg ! (no_more !)) refl (tt, tt) $ sets ! (agg ! (and_then ! (get ! refl) (no_more !))) refl (tt, (tt, tt)) $
