@@ -233,8 +233,10 @@ fails 'edit_list.py, a line that is no part of an edit' 'out of place' python3 c
 rm crates/*/on-demand.edits
 fails 'edit_list.py, no lists' 'no crate' python3 checks/edit_list.py . --some 3 7
 fails 'files.sh, no such crate' 'no src/lib.rt' sh checks/files.sh none
+fails 'proofs.py, no such crate' 'no crate' python3 checks/proofs.py none
 find crates -name '*.antt' | while read -r file; do : >"$file"; done
 fails 'names.sh, no definitions' 'no definition' sh checks/names.sh
+fails 'proofs.py, lemma files without a comment' 'no comment' python3 checks/proofs.py
 fails 'embed.py, an empty proof' 'not in the program' python3 checks/embed.py
 rm -r crates
 fails 'names.sh, no files' 'no file' sh checks/names.sh
