@@ -89,12 +89,12 @@ def laws(crate, module):
     return rows
 
 
-def functions(crate):
+def functions(crate, listed):
     rows = []
     for folder in sorted({path.parent for path in crate.glob("proofs/**/*.antt") if path.name in answers}):
         place = folder.relative_to(crate / "proofs").parts
         by = cited(crate, folder)
-        if by and place[0] not in ("laws", "courses"):
+        if by and place not in listed:
             rows.append(("::".join(place), by))
     return rows
 
@@ -117,9 +117,12 @@ for name in sys.argv[1:] or sorted(path.name for path in crates.glob("*")):
     if not (crate / "src").exists():
         sys.exit(f"proofs.py: no crate {name}")
     print(name)
+    listed = set()
     for module in "laws", "courses":
         if module == "laws" or (crate / "proofs/courses").exists():
-            show(f"src/{module}.rt", laws(crate, module))
-    show("functions", functions(crate))
+            rows = laws(crate, module)
+            show(f"src/{module}.rt", rows)
+            listed |= {(module, row[0]) for row in rows}
+    show("functions", functions(crate, listed))
     lemmas(crate)
 sys.exit(1 if failed else 0)
