@@ -66,6 +66,7 @@ fi
 # the sources
 check awk sh checks/names.sh
 check awk sh checks/files.sh
+check '' python3 checks/proofs.py
 check '' python3 checks/embed.py
 check '' python3 checks/definitions.py
 check '' sh docs/definitions.sh

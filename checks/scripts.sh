@@ -237,10 +237,12 @@ rm crates/*/on-demand.edits
 fails 'edit_list.py, no lists' 'no crate' python3 checks/edit_list.py . --some 3 7
 fails 'files.sh, no such crate' 'no src/lib.rt' sh checks/files.sh none
 fails 'definitions.sh, no such name' 'neither a definition' sh docs/definitions.sh none
+fails 'proofs.py, no such crate' 'no crate' python3 checks/proofs.py none
 find crates -name '*.antt' | while read -r file; do : >"$file"; done
 fails 'names.sh, no definitions' 'no definition' sh checks/names.sh
 fails 'definitions.py, no definitions' 'no definition' python3 checks/definitions.py
 fails 'definitions.sh, no definitions' 'no definition' sh docs/definitions.sh
+fails 'proofs.py, lemma files without a comment' 'no comment' python3 checks/proofs.py
 fails 'embed.py, an empty proof' 'not in the program' python3 checks/embed.py
 sed -i 's/laws::every_text/laws::no_text/' docs/PROVED.md
 fails 'claims.py, no such law' 'no law no_text' python3 checks/claims.py
