@@ -67,6 +67,7 @@ fi
 check awk sh checks/names.sh
 check awk sh checks/files.sh
 check '' python3 checks/embed.py
+check '' python3 bench/plot.py --check
 check '' python3 checks/definitions.py
 check '' python3 checks/canonical.py
 check '' python3 checks/groups.py

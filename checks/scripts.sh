@@ -53,6 +53,7 @@ fails 'groups.py, no such folder' 'no folder' python3 checks/groups.py none
 fails 'inverses.py, no such folder' 'no folder' python3 checks/inverses.py none
 fails 'recorded.py, no such folder' 'no folder' python3 checks/recorded.py none
 fails 'replicate.sh, no SEED' usage sh checks/replicate.sh
+fails 'plot.py, another word' usage python3 bench/plot.py --draw
 fails 'drives.py, no such folder' 'no folder' env PROGRAM=/bin/true python3 checks/drives.py none
 fails 'replicate/run.sh, one operand' usage sh examples/replicate/run.sh none
 fails 'install.sh, no PREFIX' usage sh packaging/install.sh
@@ -236,6 +237,10 @@ fails 'files.sh, no such crate' 'no src/lib.rt' sh checks/files.sh none
 find crates -name '*.antt' | while read -r file; do : >"$file"; done
 fails 'names.sh, no definitions' 'no definition' sh checks/names.sh
 fails 'embed.py, an empty proof' 'not in the program' python3 checks/embed.py
+sed -i '$s/[.]/0./' bench/figures/jobs.csv
+fails 'plot.py, a figure that its picture does not show' 'jobs.svg is not' python3 bench/plot.py --check
+: >bench/figures/jobs.csv
+fails 'plot.py, an empty table' 'no row' python3 bench/plot.py --check
 rm -r crates
 fails 'names.sh, no files' 'no file' sh checks/names.sh
 
