@@ -53,6 +53,7 @@ fails 'groups.py, no such folder' 'no folder' python3 checks/groups.py none
 fails 'inverses.py, no such folder' 'no folder' python3 checks/inverses.py none
 fails 'recorded.py, no such folder' 'no folder' python3 checks/recorded.py none
 fails 'replicate.sh, no SEED' usage sh checks/replicate.sh
+fails 'plot.py, another word' usage python3 bench/plot.py --draw
 fails 'drives.py, no such folder' 'no folder' env PROGRAM=/bin/true python3 checks/drives.py none
 fails 'replicate/run.sh, one operand' usage sh examples/replicate/run.sh none
 fails 'install.sh, no PREFIX' usage sh packaging/install.sh
@@ -252,6 +253,10 @@ sed -i 's/\tresult\t/\tanother\t/' docs/refusals.tsv
 fails 'claims.py, no such clause' 'has no clause another' python3 checks/claims.py
 : >docs/planted.tsv
 fails 'claims.py, no row' 'no row was found' python3 checks/claims.py
+sed -i '$s/[.]/0./' bench/figures/jobs.csv
+fails 'plot.py, a figure that its picture does not show' 'jobs.svg is not' python3 bench/plot.py --check
+: >bench/figures/jobs.csv
+fails 'plot.py, an empty table' 'no row' python3 bench/plot.py --check
 rm -r crates
 fails 'names.sh, no files' 'no file' sh checks/names.sh
 
