@@ -2,7 +2,7 @@
 from types import TracebackType
 from typing import Callable, Iterator, Optional, SupportsIndex, Type, Union
 
-from .errors import Drained, Refused, WindowFull
+from .errors import Drained, Reentered, Refused, WindowFull, WrongProcess
 from .records import Taken
 from .subscriptions import SubscriptionCalls
 
@@ -62,7 +62,7 @@ class Delivery:
         if kind is not None and self._out:
             try:
                 self.nack()
-            except (Refused, RuntimeError):
+            except (Refused, Reentered, WrongProcess):
                 # It has expired, its link is stale, or the broker is shut: nothing is left to give back.
                 pass
 
