@@ -33,10 +33,11 @@ class Broker(SubscriptionCalls):
         Refused: BadLimit, BadTable, OutOfMemory. A LibraryError says that no library serves."""
         if isinstance(tables, (str, bytes, Table)):
             raise TypeError(f'tables is an iterable of tables, not {type(tables).__name__}')
-        rows = [table(one) for one in tables]
-        numbers = [operands.number(limit, f'limit {name}') for limit, name in zip(limits, Limits._fields)]
-        if len(limits) != len(Limits._fields):
-            raise ValueError(f'limits has {len(Limits._fields)} numbers, not {len(limits)}')
+        rows = [table(one) for one in operands.several(tables, 'tables')]
+        given = operands.several(limits, 'limits')
+        if len(given) != len(Limits._fields):
+            raise ValueError(f'limits has {len(Limits._fields)} numbers, not {len(given)}')
+        numbers = [operands.number(limit, f'limit {name}') for limit, name in zip(given, Limits._fields)]
         super().__init__(load(found(library)), rows, numbers)
         self._name, self._tables, self._limits = os.urandom(16).hex(), tuple(rows), Limits(*numbers)
 

@@ -24,6 +24,10 @@ class TableRow(Structure):
     """struct broker_table"""
 
     _fields_ = [('name', c_char_p), ('name_len', c_size_t), ('key', c_char_p), ('columns', c_size_t)]
+    name: bytes
+    name_len: int
+    key: bytes
+    columns: int
 
 
 class LimitsRow(Structure):
@@ -36,18 +40,27 @@ class Numbers(Structure):
     """struct broker_numbers"""
 
     _fields_ = [('first', c_uint64), ('second', c_uint64)]
+    first: int
+    second: int
 
 
 class DeliveryRow(Structure):
     """struct broker_delivery"""
 
     _fields_ = [(name, c_uint64) for name in ('number', 'subscription', 'first', 'last')]
+    number: int
+    subscription: int
+    first: int
+    last: int
 
 
 class AboutRow(Structure):
     """struct broker_about"""
 
     _fields_ = [(name, c_uint64) for name in ('publisher', 'own', 'withdraws')]
+    publisher: int
+    own: int
+    withdraws: int
 
 
 class StatusRow(Structure):
@@ -97,9 +110,10 @@ class Library:
 
 def typed(loaded: ctypes.CDLL, name: str, result: Any, *types: Any) -> Call:
     """A function of the library, with its types."""
-    found = getattr(loaded, 'broker_' + name)
-    found.restype, found.argtypes = result, types
-    return found  # type: ignore[no-any-return]
+    function = getattr(loaded, 'broker_' + name)
+    function.restype, function.argtypes = result, types
+    made: Call = function
+    return made
 
 
 class Forks:
@@ -122,7 +136,10 @@ if hasattr(os, 'register_at_fork'):
 def found(library: Union[str, 'os.PathLike[str]', None] = None) -> str:
     """The path or the name of the library. A LibraryError says that there is none."""
     if library is not None:
-        return os.fsdecode(library)
+        try:
+            return os.fsdecode(library)
+        except TypeError:
+            raise TypeError(f'library is a path, not {type(library).__name__}') from None
     named = os.environ.get('GUBZELK_LIBRARY')
     if named:
         return named

@@ -1,6 +1,8 @@
 """Checks operands before a call. A wrong one is a TypeError or a ValueError that names the operand."""
 import operator
-from typing import SupportsIndex, Union
+from typing import Iterable, List, SupportsIndex, TypeVar, Union
+
+Item = TypeVar('Item')
 
 #: What a text may be. Other objects with a buffer of bytes serve too, such as an array or a mapped file.
 BytesLike = Union[bytes, bytearray, memoryview]
@@ -32,6 +34,15 @@ def integer(value: SupportsIndex, what: str) -> int:
         raise TypeError(f'{what} is an integer, not {type(value).__name__}') from None
 
 
+def several(values: Iterable[Item], what: str) -> List[Item]:
+    """The items of an iterable."""
+    try:
+        items = iter(values)
+    except TypeError:
+        raise TypeError(f'{what} is an iterable, not {type(values).__name__}') from None
+    return list(items)
+
+
 def flag(value: bool, what: str) -> bool:
     """True or False."""
     if not isinstance(value, bool):
@@ -40,8 +51,8 @@ def flag(value: bool, what: str) -> bool:
 
 
 def text(value: BytesLike, what: str) -> bytes:
-    """Bytes that nobody can change during a call. A bytes object isn't copied. Any other is, because another thread
-    could write to it while the library reads it."""
+    """Bytes that nobody can change during a call. A bytes object isn't copied, nor is a view of all of one. Any other
+    object is, because another thread could write to it while the library reads it."""
     if type(value) is bytes:
         return value
     try:
@@ -51,6 +62,8 @@ def text(value: BytesLike, what: str) -> bytes:
     with view:
         if view.format not in ('B', 'b', 'c'):
             raise TypeError(f'{what} has items of format {view.format}, not bytes')
+        if type(view.obj) is bytes and view.c_contiguous and view.nbytes == len(view.obj):
+            return view.obj
         return view.tobytes()
 
 

@@ -7,7 +7,7 @@ from fractions import Fraction
 from shared import INSERT, KEY, opened
 
 import gubzelk
-from gubzelk import native
+from gubzelk import native, operands
 
 
 class Index:
@@ -69,7 +69,7 @@ class Operands(unittest.TestCase):
                         words[at] = value
                         self.refused(kind, name, words, names_of(name)[at])
                         count += 1
-        self.assertGreater(count, 800)
+        self.assertGreater(count, 600)
 
     def test_keys(self):
         for value in [None, 1.5, True]:
@@ -86,7 +86,7 @@ class Operands(unittest.TestCase):
 class Opening(unittest.TestCase):
     def test_tables(self):
         for wrong in ['t', b't', gubzelk.Table('t', (1,)), 5, None, [5], ['t'], [('t',)], [(5, (1,))], [('t', 5)]]:
-            with self.assertRaises(TypeError):
+            with self.assertRaisesRegex(TypeError, 'table'):
                 gubzelk.Broker(wrong)
         for wrong in [[('', (1,))], [('t', ())], [('t', (0,))]]:
             with self.assertRaises(ValueError):
@@ -102,8 +102,8 @@ class Opening(unittest.TestCase):
         for wrong in [(), (1,), (1,) * 5, (1,) * 7]:
             with self.assertRaisesRegex(ValueError, 'limits has 6 numbers'):
                 gubzelk.Broker([], wrong)
-        for wrong in [None, 5, iter(usual)]:
-            with self.assertRaises(TypeError):
+        for wrong in [None, 5]:
+            with self.assertRaisesRegex(TypeError, '^limits is an iterable'):
                 gubzelk.Broker([], wrong)
 
 
@@ -125,6 +125,9 @@ class Right(unittest.TestCase):
             self.assertEqual(self.broker.place(0, value), at + 1)
             self.assertEqual(self.broker.text(at + 1), INSERT)
         mapped.close()
+        for same in [INSERT, memoryview(INSERT), memoryview(INSERT).cast('c')]:
+            self.assertIs(operands.text(same, 'text'), INSERT)
+        self.assertEqual(operands.text(memoryview(INSERT)[::-1], 'text'), INSERT[::-1])
         free = bytearray(INSERT)
         self.broker.place(0, free)
         free.append(0)
