@@ -63,8 +63,8 @@ class Broker(SubscriptionCalls):
         returns one for each `take`; a program that never calls `expire` needs none.
 
         It ends when nothing is ready, when the window is full, and when the subscription is drained (`status` says
-        which). A delivery that was given back comes again. Refused at the first step: NoSubscription, JournalFull,
-        Closed."""
+        which). A delivery that was given back comes again. Each thread needs an iterator of its own. Refused at the
+        first step: NoSubscription, JournalFull, Closed."""
         return deliveries(self, subscription, now)
 
     def __enter__(self: Self) -> Self:

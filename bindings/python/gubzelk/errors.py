@@ -2,6 +2,7 @@
 
 A refused call changes nothing, but for three cases. A stream keeps its fault until `reset`. A refused `turn` may have
 taken a changeset out of the intake, which the next one tries first. A refused `place` has reset the publisher's stream."""
+from enum import IntEnum
 from typing import Any, Callable, ClassVar, Dict, Optional, Tuple, Type
 
 from .changesets import Change, Record
@@ -36,8 +37,15 @@ class Refused(Exception):
         self.code, self.words, self.numbers = code, words, (first, second)
 
     def __str__(self) -> str:
-        shown = ', '.join(f'{name} {getattr(self, name)}' for name in self.shows)
+        shown = ', '.join(f'{name} {self._shown(name)}' for name in self.shows)
         return (f'{self.call}: ' if self.call else '') + self.words + (f' ({shown})' if shown else '')
+
+    def _shown(self, name: str) -> object:
+        try:
+            value = getattr(self, name)
+        except (ValueError, IndexError):
+            return 'unknown'
+        return value.name if isinstance(value, IntEnum) else value
 
     def __reduce__(self) -> Tuple[Any, ...]:
         return type(self), self.args, {'call': self.call}

@@ -55,7 +55,7 @@ class Calls(unittest.TestCase):
         self.assertEqual((b.place(0, INSERT), b.place(0, b''), b.text(2)), (1, 2, b''))
         fault = self.refuses(gubzelk.Fault, 'place', 0, INSERT[:1], at=1, kind=FaultKind.TRUNCATED)
         self.assertEqual((fault.code, b.why()), (Code.FAULT, (1, 16)))
-        self.assertRegex(str(fault), r'^place: .* \(at 1, kind ')
+        self.assertRegex(str(fault), r'^place: .* \(at 1, kind TRUNCATED\)$')
         self.refuses(gubzelk.UnknownTable, 'place', 0, b'T\1\1x\0', section=0)
         self.refuses(gubzelk.ShapeDiffers, 'place', 0, INSERT + b'T\1\1t\0', section=1)
         self.refuses(gubzelk.Fault, 'feed', 0, b'P', at=0, kind=FaultKind.PATCHSET)

@@ -30,6 +30,7 @@ class Script:
 
     def __init__(self, options):
         self.limits, self.tables, self.broker = gubzelk.Limits(**options), [], None
+        self.subscriptions, self.conflicts = {}, 0
 
     def line(self, raw):
         name, *words = raw.decode().split(' ')
@@ -54,13 +55,20 @@ class Script:
             return [' '.join(['refused', kind] + [str(getattr(refused, word)) for word in refused.shows])]
 
     def conflict(self, delivery, conflict):
-        """The change that a conflict names agrees with the rows of the subscription."""
-        change, range_ = conflict.change, self.broker._ranges[2 * delivery - 2:2 * delivery]
-        assert list(changesets.read(self.broker.combined(*range_)))[conflict.position] == change
-        assert conflict.table in [table.name for table in self.broker.tables] and len(conflict.key) >= 1
+        """The change that a conflict names agrees with the rows of its delivery's subscription."""
+        place = [table.name for table in self.broker.tables].index(conflict.table)
+        try:
+            row = self.broker.row(self.subscriptions[delivery], place, conflict.key)
+        except gubzelk.NoRow:
+            row = None
+        assert (row is None) == (conflict.kind == gubzelk.ConflictKind.NOTFOUND)
+        assert (conflict.change.operation == gubzelk.Operation.INSERT) == (conflict.kind == gubzelk.ConflictKind.CONFLICT)
+        self.conflicts += 1
 
     def shown(self, name, *operands):
         found = getattr(self.broker, CALLS.get(name, name))(*operands)
+        if isinstance(found, gubzelk.Taken):
+            self.subscriptions[found.number] = found.subscription
         if found is None and name in ('take', 'takeany'):
             return [f'refused Empty {self.broker.why()[0]}']
         if found is None and name == 'turn':
@@ -124,13 +132,15 @@ class Model(unittest.TestCase):
             self.assertEqual(calls.line(raw), wanted, f'line {at}: {raw.decode()}')
             seen.update(' '.join(answer.split()[:2]) for answer in wanted if answer.startswith('refused'))
         calls.broker.free()
+        return calls.conflicts
 
     def test_scripts(self):
-        seen, count = set(), int(os.environ.get('COUNT', '100'))
+        seen, count, conflicts = set(), int(os.environ.get('COUNT', '100')), 0
         for number in range(count):
-            self.compare(*deliveries.script_of(SEED * 1000 + number), seen)
-            self.compare(*wide(random.Random(f'wide-{SEED}-{number}')), seen)
+            conflicts += self.compare(*deliveries.script_of(SEED * 1000 + number), seen)
+            conflicts += self.compare(*wide(random.Random(f'wide-{SEED}-{number}')), seen)
         self.assertGreater(len(seen), 15, sorted(seen))
+        self.assertGreater(conflicts, count // 10)
 
 
 if __name__ == '__main__':
