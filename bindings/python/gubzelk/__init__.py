@@ -20,11 +20,12 @@ from .codes import Code, ConflictKind, FaultKind
 from .deliveries import Delivery
 from .errors import (
     AlreadyWithdrawn, BadCursor, BadLimit, BadTable, Busy, Closed, Conflict, Drained, Fault, Full, Gap, Holding,
-    JournalFull, LibraryError, NoDelivery, NoPublisher, NoRow, NoSubscription, NotAccepted, NotFallen, NothingStaged,
-    NotInFlight, NotPlaced, NotYours, NoTable, OutOfMemory, Reentered, Refused, Seen, SequenceFull, Shape, ShapeDiffers,
-    Shut, StaleLink, StartAhead, Store, TooMany, UnknownTable, Waiting, WindowFull, WrongProcess)
+    JournalFull, NoDelivery, NoPublisher, NoRow, NoSubscription, NotAccepted, NotFallen, NothingStaged,
+    NotInFlight, NotPlaced, NotYours, NoTable, OutOfMemory, Seen, SequenceFull, Shape, ShapeDiffers,
+    Shut, StaleLink, StartAhead, Store, TooMany, UnknownTable, Waiting, WindowFull)
 from .native import VERSION as __version__
 from .records import About, Limits, Status, Subscribed, Taken
+from .refused import LibraryError, Reentered, Refused, WrongProcess
 from .tables import Table, tables_of
 
 __all__ = [

@@ -2,8 +2,9 @@
 from types import TracebackType
 from typing import Callable, Iterator, Optional, SupportsIndex, Type, Union
 
-from .errors import Drained, Reentered, Refused, WindowFull, WrongProcess
+from .errors import Drained, WindowFull
 from .records import Taken
+from .refused import Reentered, Refused, WrongProcess
 from .subscriptions import SubscriptionCalls
 
 

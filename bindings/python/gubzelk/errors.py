@@ -2,53 +2,12 @@
 
 A refused call changes nothing, but for three cases. A stream keeps its fault until `reset`. A refused `turn` may have
 taken a changeset out of the intake, which the next one tries first. A refused `place` has reset the publisher's stream."""
-from enum import IntEnum
-from typing import Any, Callable, ClassVar, Dict, Optional, Tuple, Type
+from typing import Callable, Dict, Optional, Type
 
 from .changesets import Change, Record
 from .codes import Code, ConflictKind, FaultKind
 from .records import Limits
-
-
-class LibraryError(OSError):
-    """No library is found, it can't be loaded, or it has another version than this package."""
-
-
-class WrongProcess(RuntimeError):
-    """The broker was opened before a fork. Only the process that opened it makes its calls."""
-
-
-class Reentered(RuntimeError):
-    """A signal handler or a finalizer makes a call while the same thread makes one of the same broker."""
-
-
-class Refused(Exception):
-    """A call is refused.
-
-    `code` is what it returned, `words` what that means, `numbers` the two numbers that go with it, and `call` its name."""
-
-    of: ClassVar[Optional[Code]] = None
-    #: The names of the numbers, as the message shows them.
-    shows: ClassVar[Tuple[str, ...]] = ()
-    call: str = ''
-
-    def __init__(self, code: int, words: str, first: int = 0, second: int = 0) -> None:
-        super().__init__(code, words, first, second)
-        self.code, self.words, self.numbers = code, words, (first, second)
-
-    def __str__(self) -> str:
-        shown = ', '.join(f'{name} {self._shown(name)}' for name in self.shows)
-        return (f'{self.call}: ' if self.call else '') + self.words + (f' ({shown})' if shown else '')
-
-    def _shown(self, name: str) -> object:
-        try:
-            value = getattr(self, name)
-        except (ValueError, IndexError):
-            return 'unknown'
-        return value.name if isinstance(value, IntEnum) else value
-
-    def __reduce__(self) -> Tuple[Any, ...]:
-        return type(self), self.args, {'call': self.call}
+from .refused import Refused
 
 
 class Shut(Refused):

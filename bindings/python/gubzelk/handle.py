@@ -10,8 +10,9 @@ from typing import Any, List, NoReturn, Optional, Sequence, SupportsIndex, Tuple
 
 from . import operands
 from .codes import Code
-from .errors import Reentered, WrongProcess, refusal
+from .errors import refusal
 from .native import READS, Library, LimitsRow, Numbers, TableRow
+from .refused import Reentered, WrongProcess
 from .tables import Table
 
 # texts up to this length take one call of the library; longer ones take two

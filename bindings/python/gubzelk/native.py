@@ -11,7 +11,7 @@ from ctypes import POINTER, Structure, c_bool, c_char_p, c_int, c_int64, c_size_
 from functools import lru_cache
 from typing import Any, Callable, Dict, List, Optional, Tuple, Union
 
-from .errors import LibraryError, WrongProcess
+from .refused import LibraryError, WrongProcess
 
 #: The version of the header that this package is written for, and the same as broker_version tells it.
 VERSION = '0.1.0'
