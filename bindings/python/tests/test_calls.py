@@ -12,8 +12,8 @@ class Calls(unittest.TestCase):
         self.broker = opened(batch=2, capacity=16, intake=4)
         self.addCleanup(self.broker.free)
 
-    def refuses(self, kind, name, *words, **numbers):
-        with self.assertRaises(kind) as caught:
+    def refuses(self, error, name, *words, **numbers):
+        with self.assertRaises(error) as caught:
             getattr(self.broker, name)(*words)
         for number, value in numbers.items():
             self.assertEqual(getattr(caught.exception, number), value)

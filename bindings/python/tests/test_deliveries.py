@@ -73,22 +73,28 @@ class Deliveries(unittest.TestCase):
         except gubzelk.Shut:
             return False
 
-    def test_a_poor_entry(self):
-        """The way out of a conflict in a delivery of several entries, as docs/SCRIPT.md says."""
-        self.place(1, 1)
-        self.place(2)
-        conflicts, alone = [], []
+    def test_conflicts(self):
+        """A delivery that conflicts comes again, until it is opened or the loop ends."""
+        self.place(1)
+        for delivery in self.broker.deliveries(0):
+            delivery.accept()
+            delivery.ack()
+        self.place(2, 1)
+        found, opens = [], [False, False, True, False]
         for delivery in self.broker.deliveries(0):
             try:
                 with delivery:
                     delivery.accept()
-                    alone.append(delivery.last)
+                    found.append((delivery.first, delivery.last))
                     delivery.ack()
             except gubzelk.Conflict as conflict:
-                conflicts.append((delivery.first, delivery.last, conflict.key))
-                if len(conflicts) == 3:
+                found.append((delivery.first, delivery.last, conflict.key))
+                if not opens:
                     break
-        self.assertEqual((conflicts, alone), ([(1, 2, (1,))] * 3, []) if conflicts else ([], [2, 3]))
+                if opens.pop(0):
+                    [delivery] = self.broker.deliveries(0)
+                    delivery.nack_opened()
+        self.assertEqual(found, [(2, 3, (1,))] * 3 + [(2, 2)] + [(3, 3, (1,))] * 2)
 
     def test_opened(self):
         self.place(1)

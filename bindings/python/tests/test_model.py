@@ -1,4 +1,4 @@
-"""Scripts made by chance, as calls of a Broker, against checks/model.py. COUNT scripts are run, 100 without it."""
+"""Scripts made by chance, as calls of a Broker, against checks/model.py. COUNT scripts of two kinds are run, 40 without it."""
 import os
 import random
 import unittest
@@ -33,6 +33,8 @@ class Script:
         self.subscriptions, self.conflicts = {}, 0
 
     def line(self, raw):
+        if model.World.form(model.World, raw) is None:
+            return ['refused Line']
         name, *words = raw.decode().split(' ')
         if name == 'table':
             header = changesets.Source(bytes.fromhex(words[0])[1:]).header()
@@ -135,7 +137,7 @@ class Model(unittest.TestCase):
         return calls.conflicts
 
     def test_scripts(self):
-        seen, count, conflicts = set(), int(os.environ.get('COUNT', '100')), 0
+        seen, count, conflicts = set(), int(os.environ.get('COUNT', '40')), 0
         for number in range(count):
             conflicts += self.compare(*deliveries.script_of(SEED * 1000 + number), seen)
             conflicts += self.compare(*wide(random.Random(f'wide-{SEED}-{number}')), seen)
