@@ -24,7 +24,7 @@ if [ -z "$LIBRARY" ]; then
     LIBRARY=$work/prefix/lib/libgubzelk.so
 fi
 [ -e "$LIBRARY" ] || fail "no $LIBRARY" 2
-gcc -shared -fPIC -O1 -Wall -Wextra -Werror -I include "$package/tests/stub.c" -o "$work/stub.so" || fail 'no stub' 2
+gcc -shared -fPIC -O1 -Wall -Werror -I include "$package/tests/stub.c" -o "$work/stub.so" || fail 'no stub' 2
 export GUBZELK_STUB="$work/stub.so"
 
 # quiet COMMAND..: what the command prints is shown only if it fails
@@ -36,7 +36,7 @@ quiet() {
 
 # tests FILE: the tests of one file
 tests() {
-    (cd "$package/tests" && GUBZELK_LIBRARY=$LIBRARY PYTHONPATH=$package quiet "$python" -m unittest "$1")
+    (cd "$package/tests" && GUBZELK_LIBRARY=$LIBRARY PYTHONPATH=$package quiet timeout 600 "$python" -m unittest "$1")
 }
 
 # prints: thrice, over the files that it leaves, the example prints what it must
@@ -63,15 +63,15 @@ with gubzelk.Broker([("t", (1,))]) as broker: assert broker.publisher() == 0')
 }
 
 for python; do
-    name=$("$python" -c 'import sys; print("Python %d.%d" % sys.version_info[:2])') || fail "$python doesn't run" 2
+    version=$("$python" -c 'import sys; print("Python %d.%d" % sys.version_info[:2])') || fail "$python doesn't run" 2
     for file in "$package"/tests/test_*.py; do
         file=${file##*/}
-        says "$name, $file" tests "${file%.py}"
+        says "$version, $file" tests "${file%.py}"
     done
-    says "$name, the example" prints
-    if "$python" -m pip --version >"$work/said" 2>&1; then says "$name, pip" installs_package; fi
+    says "$version, the example" prints
+    if "$python" -m pip --version >"$work/said" 2>&1; then says "$version, pip" installs_package; fi
     if "$python" -m mypy --version >"$work/said" 2>&1; then
-        says "$name, mypy" quiet "$python" -m mypy --strict --cache-dir "$work/mypy" "$package/gubzelk"
+        says "$version, mypy" quiet "$python" -m mypy --strict --cache-dir "$work/mypy" "$package/gubzelk"
     fi
 done
 none_failed checks
