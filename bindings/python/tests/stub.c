@@ -1,25 +1,47 @@
-/* A library with the calls of broker.h, whose results a test sets: the refusals that the real one seldom makes. It counts
- * the calls that overlap another one. */
+/* A library with the calls of broker.h, whose results a test sets: for the refusals that the real one seldom makes, and
+ * for what is passed and written. It keeps the operands of the last call, and counts the calls that overlap another. */
 #include "broker.h"
 #include <string.h>
 #include <unistd.h>
 
+typedef uint64_t u;
+typedef const unsigned char *text;
+typedef unsigned char *buffer;
+
 int stub_code, stub_overlaps, stub_wait, stub_made, stub_shut, stub_freed, stub_version = BROKER_VERSION_NUMBER;
-uint64_t stub_first, stub_second;
+/* the operands of the last call: its numbers, and its text; and how often a call had another handle,
+ * or NULL for a text, a buffer or the tables */
+u stub_numbers[3], stub_length;
+unsigned char stub_text[64];
+int stub_strangers;
+/* what broker_why tells, and the length of the texts that are written */
+u stub_first, stub_second, stub_writes;
 static int inside;
 
-static int made(void) {
+static int made(const broker *b, u first, u second, text bytes, size_t len) {
     if (__atomic_add_fetch(&inside, 1, __ATOMIC_SEQ_CST) != 1) __atomic_add_fetch(&stub_overlaps, 1, __ATOMIC_SEQ_CST);
     if (stub_wait) usleep((unsigned)stub_wait);
+    if (b != (const broker *)&inside) stub_strangers++;
+    stub_numbers[0] = first, stub_numbers[1] = second, stub_length = len;
+    if (bytes) memcpy(stub_text, bytes, len < 64 ? len : 64);
     __atomic_add_fetch(&stub_made, 1, __ATOMIC_SEQ_CST);
     __atomic_sub_fetch(&inside, 1, __ATOMIC_SEQ_CST);
     return stub_code;
 }
-
-#define CALL(name, ...) int broker_##name(broker *b, __VA_ARGS__) { (void)b; return made(); }
-#define TEXT(name, ...) int64_t broker_##name(broker *b, __VA_ARGS__) { (void)b; return made(); }
-typedef uint64_t u;
-typedef const unsigned char *text;
+static text some(text bytes) {
+    if (!bytes) stub_strangers++;
+    return bytes;
+}
+static int one(int code, u *out, u number) {
+    if (code >= 0) *out = number;
+    return code;
+}
+static int64_t writes(int code, buffer out, size_t room) {
+    (void)some(out);
+    if (code < 0) return code;
+    if (stub_writes <= room) memset(out, 'w', stub_writes);
+    return (int64_t)stub_writes;
+}
 
 int64_t broker_message(int code, char *out, size_t room) {
     (void)code;
@@ -29,46 +51,68 @@ int64_t broker_message(int code, char *out, size_t room) {
 int broker_version(void) { return stub_version; }
 int broker_open(broker **out, const struct broker_limits *l, const struct broker_table *t, size_t n,
                 struct broker_numbers *why) {
-    (void)l, (void)t, (void)n;
     why->first = stub_first, why->second = stub_second;
+    if (!t) stub_strangers++;
+    stub_numbers[0] = n, stub_numbers[1] = l->batch, stub_numbers[2] = l->appliers, stub_length = 0;
+    for (size_t i = 0; i < n; i++) {
+        memcpy(stub_text + stub_length, t[i].name, t[i].name_len);
+        memcpy(stub_text + stub_length + t[i].name_len, t[i].key, t[i].columns);
+        stub_length += t[i].name_len + t[i].columns;
+    }
     if (stub_code >= 0) *out = (broker *)&inside;
     return stub_code;
 }
 void broker_shut(broker *b) { (void)b, stub_shut++; }
 void broker_free(broker *b) { (void)b, stub_freed++; }
 int broker_why(const broker *b, struct broker_numbers *why) {
-    (void)b, (void)made();
+    (void)made(b, 0, 0, 0, 0);
     why->first = stub_first, why->second = stub_second;
     return 0;
 }
-CALL(publisher, u *p)
-CALL(feed, u p, text bytes, size_t len)
-CALL(reset, u p)
-CALL(end, u p)
-CALL(send, u p, u *own)
-CALL(withdraw, u p, u entry)
-CALL(turn, u *entry)
-CALL(place, u p, text bytes, size_t len, u *entry)
-CALL(close, u *last)
-CALL(left, u *count)
-CALL(front, u *entry)
-TEXT(text, u entry, unsigned char *out, size_t room)
-TEXT(combined, u first, u last, unsigned char *out, size_t room)
-CALL(entry, u entry, struct broker_about *about)
-CALL(subscribe, u start, u *subscription, u *link)
-CALL(subscribe_bare, u start, u *subscription, u *link)
-CALL(take, u subscription, u now, struct broker_delivery *delivery)
-CALL(take_any, u now, struct broker_delivery *delivery)
-CALL(accept, u delivery, u *cursor)
-CALL(crash, u delivery, bool kept, u *cursor)
-CALL(cursor, u subscription, u *cursor)
-CALL(status, u subscription, struct broker_status *status)
-CALL(ack, u delivery, u *floor)
-CALL(nack, u delivery)
-CALL(nack_opened, u delivery, u *count)
-CALL(expire, u now, u *count)
-CALL(reconnect, u subscription, u cursor, u *link)
-CALL(resume, u subscription, u *link)
-CALL(unsubscribe, u subscription)
-TEXT(rows, u subscription, unsigned char *out, size_t room)
-TEXT(row, u subscription, u table, text key, size_t len, unsigned char *out, size_t room)
+int broker_publisher(broker *b, u *p) { return one(made(b, 0, 0, 0, 0), p, 101); }
+int broker_feed(broker *b, u p, text bytes, size_t len) { return made(b, p, 0, some(bytes), len); }
+int broker_reset(broker *b, u p) { return made(b, p, 0, 0, 0); }
+int broker_end(broker *b, u p) { return made(b, p, 0, 0, 0); }
+int broker_send(broker *b, u p, u *own) { return one(made(b, p, 0, 0, 0), own, 101); }
+int broker_withdraw(broker *b, u p, u entry) { return made(b, p, entry, 0, 0); }
+int broker_turn(broker *b, u *entry) { return one(made(b, 0, 0, 0, 0), entry, 101); }
+int broker_place(broker *b, u p, text bytes, size_t len, u *entry) { return one(made(b, p, 0, some(bytes), len), entry, 101); }
+int broker_close(broker *b, u *last) { return one(made(b, 0, 0, 0, 0), last, 101); }
+int broker_left(broker *b, u *count) { return one(made(b, 0, 0, 0, 0), count, 101); }
+int broker_front(broker *b, u *entry) { return one(made(b, 0, 0, 0, 0), entry, 101); }
+int64_t broker_text(broker *b, u entry, buffer out, size_t room) { return writes(made(b, entry, 0, 0, 0), out, room); }
+int64_t broker_combined(broker *b, u first, u last, buffer out, size_t room) {
+    return writes(made(b, first, last, 0, 0), out, room);
+}
+int broker_entry(broker *b, u entry, struct broker_about *about) {
+    int code = made(b, entry, 0, 0, 0);
+    if (code >= 0) *about = (struct broker_about){1, 2, 3};
+    return code;
+}
+int broker_subscribe(broker *b, u start, u *s, u *link) { return one(one(made(b, start, 0, 0, 0), s, 101), link, 102); }
+int broker_subscribe_bare(broker *b, u start, u *s, u *link) { return broker_subscribe(b, start, s, link); }
+int broker_take(broker *b, u subscription, u now, struct broker_delivery *delivery) {
+    int code = made(b, subscription, now, 0, 0);
+    if (code >= 0) *delivery = (struct broker_delivery){1, 2, 3, 4};
+    return code;
+}
+int broker_take_any(broker *b, u now, struct broker_delivery *delivery) { return broker_take(b, now, 0, delivery); }
+int broker_accept(broker *b, u delivery, u *cursor) { return one(made(b, delivery, 0, 0, 0), cursor, 101); }
+int broker_crash(broker *b, u delivery, bool kept, u *cursor) { return one(made(b, delivery, kept, 0, 0), cursor, 101); }
+int broker_cursor(broker *b, u subscription, u *cursor) { return one(made(b, subscription, 0, 0, 0), cursor, 101); }
+int broker_status(broker *b, u subscription, struct broker_status *status) {
+    int code = made(b, subscription, 0, 0, 0);
+    if (code >= 0) *status = (struct broker_status){1, 2, 3, 4, 5, 6, 7, 8, false, true};
+    return code;
+}
+int broker_ack(broker *b, u delivery, u *floor) { return one(made(b, delivery, 0, 0, 0), floor, 101); }
+int broker_nack(broker *b, u delivery) { return made(b, delivery, 0, 0, 0); }
+int broker_nack_opened(broker *b, u delivery, u *count) { return one(made(b, delivery, 0, 0, 0), count, 101); }
+int broker_expire(broker *b, u now, u *count) { return one(made(b, now, 0, 0, 0), count, 101); }
+int broker_reconnect(broker *b, u s, u cursor, u *link) { return one(made(b, s, cursor, 0, 0), link, 101); }
+int broker_resume(broker *b, u subscription, u *link) { return one(made(b, subscription, 0, 0, 0), link, 101); }
+int broker_unsubscribe(broker *b, u subscription) { return made(b, subscription, 0, 0, 0); }
+int64_t broker_rows(broker *b, u s, buffer out, size_t room) { return writes(made(b, s, 0, 0, 0), out, room); }
+int64_t broker_row(broker *b, u s, u table, text key, size_t len, buffer out, size_t room) {
+    return writes(made(b, s, table, some(key), len), out, room);
+}
