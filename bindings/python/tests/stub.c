@@ -28,9 +28,11 @@ static int made(const broker *b, u first, u second, text bytes, size_t len) {
     __atomic_sub_fetch(&inside, 1, __ATOMIC_SEQ_CST);
     return stub_code;
 }
-static text some(text bytes) {
-    if (!bytes) stub_strangers++;
-    return bytes;
+/* The compiler believes the header that no pointer is NULL: it may not look through the volatile one. */
+static const void *some(const void *pointer) {
+    const void *volatile read = pointer;
+    if (!read) stub_strangers++;
+    return pointer;
 }
 static int one(int code, u *out, u number) {
     if (code >= 0) *out = number;
@@ -52,7 +54,7 @@ int broker_version(void) { return stub_version; }
 int broker_open(broker **out, const struct broker_limits *l, const struct broker_table *t, size_t n,
                 struct broker_numbers *why) {
     why->first = stub_first, why->second = stub_second;
-    if (!t) stub_strangers++;
+    (void)some(t);
     stub_numbers[0] = n, stub_numbers[1] = l->batch, stub_numbers[2] = l->appliers, stub_length = 0;
     for (size_t i = 0; i < n; i++) {
         memcpy(stub_text + stub_length, t[i].name, t[i].name_len);
