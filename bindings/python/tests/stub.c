@@ -56,7 +56,7 @@ int broker_open(broker **out, const struct broker_limits *l, const struct broker
     why->first = stub_first, why->second = stub_second;
     (void)some(t);
     stub_numbers[0] = n, stub_numbers[1] = l->batch, stub_numbers[2] = l->appliers, stub_length = 0;
-    for (size_t i = 0; i < n; i++) {
+    for (size_t i = 0; i < n && stub_length + t[i].name_len + t[i].columns <= sizeof stub_text; i++) {
         memcpy(stub_text + stub_length, t[i].name, t[i].name_len);
         memcpy(stub_text + stub_length + t[i].name_len, t[i].key, t[i].columns);
         stub_length += t[i].name_len + t[i].columns;
