@@ -33,6 +33,6 @@ __all__ = [
     'Closed', 'Code', 'Conflict', 'ConflictKind', 'Delivery', 'Drained', 'Fault', 'FaultKind', 'Full', 'Gap', 'Holding',
     'JournalFull', 'LibraryError', 'Limits', 'NoDelivery', 'NoPublisher', 'NoRow', 'NoSubscription', 'NoTable',
     'NotAccepted', 'NotFallen', 'NotInFlight', 'NotPlaced', 'NotYours', 'NothingStaged', 'Operation', 'OutOfMemory',
-    'Reentered', 'Refused', 'Seen', 'SequenceFull', 'Shape', 'ShapeDiffers', 'Shut', 'StaleLink', 'StartAhead', 'Status',
-    'Store', 'Subscribed', 'Table', 'Taken', 'TooMany', 'UNDEFINED', 'UnknownTable', 'Waiting', 'WindowFull',
+    'Reentered', 'Refused', 'Seen', 'SequenceFull', 'Shape', 'ShapeDiffers', 'Shut', 'StaleLink', 'StartAhead',
+    'Status', 'Store', 'Subscribed', 'Table', 'Taken', 'TooMany', 'UNDEFINED', 'UnknownTable', 'Waiting', 'WindowFull',
     'WrongProcess', '__version__', 'changesets', 'tables_of']

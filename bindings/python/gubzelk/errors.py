@@ -1,7 +1,8 @@
 """An exception for each refusal of a call. Each is a Refused, and names the numbers that go with it.
 
 A refused call changes nothing, but for three cases. A stream keeps its fault until `reset`. A refused `turn` may have
-taken a changeset out of the intake, which the next one tries first. A refused `place` has reset the publisher's stream."""
+taken a changeset out of the intake, which the next one tries first. A refused `place` has reset the publisher's
+stream."""
 from typing import Callable, Dict, Optional, Type
 
 from .changesets import Change, Record

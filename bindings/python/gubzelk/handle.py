@@ -53,7 +53,7 @@ class Handle:
             raise WrongProcess('this broker was opened by another process')
 
     def _outside(self) -> None:
-        """Refuses a signal handler or a finalizer that interrupts a call of its own thread. Others wait for the lock."""
+        """Refuses a signal handler or a finalizer that interrupts a call of its own thread. Other threads wait."""
         if self._inside:
             raise Reentered('this thread is inside a call of this broker')
 
@@ -106,7 +106,7 @@ class Handle:
     # ---- the handle itself
 
     def shut(self) -> None:
-        """Frees what is behind the handle (broker_shut). Each later call raises Shut. A second shut does nothing."""
+        """Frees all that the handle leads to (broker_shut). Each later call raises Shut. A second shut does nothing."""
         self._own()
         with self._lock:
             self._outside()
@@ -118,7 +118,7 @@ class Handle:
                 self._inside = False
 
     def free(self) -> None:
-        """Frees the handle with everything behind it (broker_free). Each later call raises Shut. A second free does
+        """Frees the handle and all that it leads to (broker_free). Each later call raises Shut. A second free does
         nothing. The end of a `with` statement frees too. In the child of a fork it only forgets the handle."""
         if self._process != os.getpid():
             self._handle = None

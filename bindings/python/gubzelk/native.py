@@ -13,7 +13,7 @@ from typing import Any, Callable, Dict, List, Optional, Tuple, Union
 
 from .refused import LibraryError, WrongProcess
 
-#: The version of the header that this package is written for, and the same as broker_version tells it.
+#: The version of the header that this package is written for, and the number that broker_version returns for it.
 VERSION = '0.1.0'
 VERSION_NUMBER = 1000
 

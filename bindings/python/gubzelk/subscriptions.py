@@ -154,5 +154,6 @@ class SubscriptionCalls(SequenceCalls):
 
         `key` is a tuple or a list of the values of the key columns, in the order of the columns; or their bytes, as a
         changeset has them. Refused: NoSubscription, NoTable, NoRow."""
-        found = changesets.key_text(key) if isinstance(key, (tuple, list)) else text(key, 'key')  # type: ignore[arg-type]
+        values: Any = key
+        found = changesets.key_text(values) if isinstance(values, (tuple, list)) else text(values, 'key')
         return self._text('row', number(subscription, 'subscription'), number(table, 'table'), found, len(found))

@@ -1,4 +1,4 @@
-"""The tables that changesets may be of: from names and key places, or as a connection of the module sqlite3 has them."""
+"""The tables that changesets may be of: from names and key places, or as a connection of sqlite3 has them."""
 import sqlite3
 from typing import Any, Iterable, List, SupportsIndex, Tuple, Union
 
@@ -8,8 +8,8 @@ from . import operands
 class Table:
     """A table's name, and for each column 0 or its place in the primary key, from 1.
 
-    `key` is what the column `pk` of PRAGMA table_info has, such as (1, 0, 0) or b'\\1\\0\\0'. Two tables are equal if both
-    are."""
+    `key` is what the column `pk` of PRAGMA table_info has, such as (1, 0, 0) or b'\\1\\0\\0'. Two tables are equal if
+    both are."""
 
     __slots__ = ('_name', '_key')
     _name: bytes

@@ -14,7 +14,7 @@ int stub_code, stub_overlaps, stub_wait, stub_made, stub_shut, stub_freed, stub_
 u stub_numbers[3], stub_length;
 unsigned char stub_text[64];
 int stub_strangers;
-/* what broker_why tells, and the length of the texts that are written */
+/* what broker_why writes, and the length of the texts that are written */
 u stub_first, stub_second, stub_writes;
 static int inside;
 
