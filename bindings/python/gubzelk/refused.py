@@ -20,8 +20,8 @@ class Reentered(RuntimeError):
 class Refused(Exception):
     """A call is refused.
 
-    `code` is what it returned, and `words` what that means. `numbers` are the two numbers that go with it, and `call` is
-    its name."""
+    `code` is what it returned, and `words` what that means. `numbers` are the two numbers that go with it, and `call`
+    is its name."""
 
     of: ClassVar[Optional[Code]] = None
     #: The names of the numbers, as the message shows them.
