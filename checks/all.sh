@@ -90,6 +90,7 @@ check gcc sh refused/run.sh
 check "gcc g++ $RT" sh checks/header.sh
 check "gcc nm pkg-config python3 $RT" sh checks/packaging.sh
 check "gcc pkg-config python3 rustc $RT" sh checks/examples.sh
+check "gcc python3 $RT" sh checks/python.sh
 check "gcc $RT" sh checks/leaks.sh
 check "gcc g++ valgrind $RT" sh checks/library.sh
 check "gcc sqlite3 $RT" sh examples/replicate/run.sh

@@ -4,7 +4,7 @@
 # on standard error. One line for each trial.
 #   sh checks/scripts.sh        needs gcc, g++, valgrind, python3, git, sqlite3 and its library; no prover and no built program
 . "$(dirname "$0")/begin.sh"
-git clone -q . "$work/top" && cp -R checks refused bench examples include packaging VERSION "$work/top" || exit 2
+git clone -q . "$work/top" && cp -R bindings checks refused bench examples include packaging VERSION "$work/top" || exit 2
 cd "$work/top" || exit 2
 program=crates/rb_run/out/rb_run
 export PROGRAM="$program" RT="$work/rt"
@@ -82,6 +82,8 @@ fails 'library.sh, no library' 'no crates' sh checks/library.sh
 fails 'install.sh, no library' 'no crates' sh packaging/install.sh "$work/prefix"
 fails 'packaging.sh, no library' 'nothing is installed' sh checks/packaging.sh
 fails 'examples.sh, no library' 'nothing is installed' sh checks/examples.sh
+fails 'python.sh, no library' 'nothing is installed' sh checks/python.sh
+fails 'python.sh, no interpreter' 'no command' sh checks/python.sh no-such-python
 fails 'refused/run.sh, no program' 'no program' sh refused/run.sh
 fails 'tests.sh, no program' 'no program' sh refused/tests.sh cs_tests
 fails 'replicate/run.sh, no library' 'no .*libbroker_c' sh examples/replicate/run.sh
