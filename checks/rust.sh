@@ -2,8 +2,8 @@
 # Checks the crates of bindings/rust. It prints a line for each check, and ends with status 1 where one fails.
 # - The declarations of gubzelk-sys agree with both headers: each call's operands, and sizes, offsets and numbers as a C
 #   compiler finds them.
-# - Each call and each refusal of gubzelk is tried, brokers are used in threads, and the examples of the documentation run.
-# - The example prints what it must.
+# - Each call and each refusal of gubzelk is tried, and brokers in threads. The examples of the documentation run.
+# - The example prints what it must, also in valgrind, where there is one: no memory is lost.
 # - Formatting, warnings and documentation, where there is a rustfmt and a clippy.
 # - The build script finds the libraries by GUBZELK_LIB_DIR and by pkg-config, links the archives or the shared object,
 #   and says what to do where it finds nothing.
@@ -42,7 +42,8 @@ builds() {
 
 # prints: the example prints what it must
 prints() {
-    cargo run -q -j1 --locked -p gubzelk --example copy >"$work/printed" && cmp "$work/printed" gubzelk/examples/copy.output
+    cargo run -q -j1 --locked -p gubzelk --example copy >"$work/printed" &&
+        cmp "$work/printed" gubzelk/examples/copy.output
 }
 
 # advises WHY COMMAND..: the build fails for this reason, and says what to do
@@ -64,6 +65,12 @@ rebuilds() {
     says 'the tests' builds test $features --all-targets
     says 'the examples of the documentation' builds test $features --doc
     says 'the example' prints
+    if command -v valgrind >"$work/path"; then
+        CARGO_TARGET_X86_64_UNKNOWN_LINUX_GNU_RUNNER='valgrind -q --leak-check=full --error-exitcode=9'
+        export CARGO_TARGET_X86_64_UNKNOWN_LINUX_GNU_RUNNER
+        says 'the example in valgrind' prints
+        unset CARGO_TARGET_X86_64_UNKNOWN_LINUX_GNU_RUNNER
+    fi
     if cargo fmt --version >"$work/path" 2>&1; then says 'formatting' quiet cargo fmt --check; fi
     if cargo clippy --version >"$work/path" 2>&1; then
         says 'clippy' builds clippy $features --all-targets -- -D warnings

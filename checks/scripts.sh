@@ -4,7 +4,7 @@
 # on standard error. One line for each trial.
 #   sh checks/scripts.sh        needs gcc, g++, valgrind, python3, git, sqlite3 and its library; no prover and no built program
 . "$(dirname "$0")/begin.sh"
-git clone -q . "$work/top" && cp -R checks refused bench examples include packaging VERSION "$work/top" || exit 2
+git clone -q . "$work/top" && cp -R bindings checks refused bench examples include packaging VERSION "$work/top" || exit 2
 cd "$work/top" || exit 2
 program=crates/rb_run/out/rb_run
 export PROGRAM="$program" RT="$work/rt"
@@ -73,6 +73,10 @@ fails 'soak.sh, no program' 'no program' sh checks/soak.sh 1
 fails 'valgrind.sh, no program' 'no program' sh checks/valgrind.sh
 fails 'leaks.sh, no program' 'no crates' sh checks/leaks.sh
 fails 'stops.sh, no program' 'no program' sh checks/stops.sh 2
+fails 'rust.sh, no library' 'nothing is installed' sh checks/rust.sh
+mkdir "$work/few"
+for tool in dirname mktemp rm; do ln -s "$(command -v $tool)" "$work/few"; done
+fails 'rust.sh, no cargo' 'no command cargo' env PATH="$work/few" /bin/sh checks/rust.sh
 fails 'header.sh, no library' 'no crates' sh checks/header.sh
 fails 'library.sh, no library' 'no crates' sh checks/library.sh
 fails 'install.sh, no library' 'no crates' sh packaging/install.sh "$work/prefix"

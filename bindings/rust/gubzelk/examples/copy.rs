@@ -1,5 +1,5 @@
-//! Keeps a copy of a table by deliveries, stops between a delivery's accept and the copy, and starts again. Then the copy
-//! meets another broker.
+//! Keeps a copy of a table by deliveries, stops between a delivery's accept and the copy, and starts again. Then the
+//! copy meets another broker.
 //!
 //!     GUBZELK_LIB_DIR=PREFIX/lib cargo run --example copy
 use gubzelk::{Broker, Limits, PublisherId, Result, SubscriptionId, Table};

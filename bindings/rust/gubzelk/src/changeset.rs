@@ -1,4 +1,5 @@
-//! Functions on the bytes of changesets, without a broker: the calls of `changeset.h`. They need the feature `changeset`.
+//! Functions on the bytes of changesets, without a broker: the calls of `changeset.h`. They need the feature
+//! `changeset`.
 //!
 //! A text is the bytes of a changeset, as SQLite's session extension writes it.
 //!
@@ -80,8 +81,8 @@ pub fn canonical(text: &[u8]) -> Result<Vec<u8>> {
     filled(|out, room| one(text, unsafe { sys::changeset_canonical(text.as_ptr(), text.len(), out, room) }))
 }
 
-/// The canonical text of the inverse, as `sqlite3changeset_invert` makes it: an INSERT becomes a DELETE of the same row,
-/// a DELETE becomes an INSERT, and an UPDATE exchanges its old and new values.
+/// The canonical text of the inverse, as `sqlite3changeset_invert` makes it: an INSERT becomes a DELETE of the same
+/// row, a DELETE becomes an INSERT, and an UPDATE exchanges its old and new values.
 ///
 /// # Errors
 /// As [`canonical`].

@@ -1,8 +1,8 @@
 //! A broker of SQLite changesets in the caller's process.
 //!
-//! Publishers feed a [`Broker`] changesets, as SQLite's session extension records them. The broker places each under the
-//! next number of one sequence. Subscriptions take what is placed as deliveries, accept them in order, and acknowledge
-//! them. The calls are those of `broker.h`, under the same names, and the library behind them is proved.
+//! Publishers feed a [`Broker`] changesets, as SQLite's session extension records them. The broker places each under
+//! the next number of one sequence. Subscriptions take what is placed as deliveries, accept them in order, and
+//! acknowledge them. The calls are those of `broker.h`, under the same names, and the library behind them is proved.
 //!
 //! ```
 //! use gubzelk::{Broker, Limits, Table};
@@ -34,15 +34,15 @@
 //!
 //! # Numbers
 //!
-//! Publishers and subscriptions are numbered from 0, entries and deliveries from 1. A tick is any number of the caller's
-//! clock. A number of an entry means nothing without its broker, since each new broker counts from 1. So a program that
-//! stores such a number stores [`Broker::name`] beside it.
+//! Publishers and subscriptions are numbered from 0, entries and deliveries from 1. A tick is any number of the
+//! caller's clock. A number of an entry means nothing without its broker, since each new broker counts from 1. So a
+//! program that stores such a number stores [`Broker::name`] beside it.
 //!
 //! # Threads
 //!
 //! A [`Broker`] can be sent to another thread. It isn't [`Sync`], so threads that share one need a
-//! [`Mutex`](std::sync::Mutex). No call waits or starts a thread. A child that `fork` made in a process with threads must
-//! make no call, and neither must a signal handler. Neither can be written without `unsafe`.
+//! [`Mutex`](std::sync::Mutex). No call waits or starts a thread. A child that `fork` made in a process with threads
+//! must make no call, and neither must a signal handler. Neither can be written without `unsafe`.
 //!
 //! ```
 //! fn sent<T: Send>() {}

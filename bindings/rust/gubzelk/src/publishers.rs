@@ -43,8 +43,8 @@ impl Broker {
     /// - [`NoPublisher`](crate::Error::NoPublisher)
     /// - [`Holding`](crate::Error::Holding) if a changeset is staged already.
     /// - [`Fault`](crate::Error::Fault) if the stream spells no changeset, as when it ends inside a change.
-    /// - [`UnknownTable`](crate::Error::UnknownTable), [`ShapeDiffers`](crate::Error::ShapeDiffers) if a section doesn't
-    ///   fit the broker's tables.
+    /// - [`UnknownTable`](crate::Error::UnknownTable), [`ShapeDiffers`](crate::Error::ShapeDiffers) if a section
+    ///   doesn't fit the broker's tables.
     pub fn end(&mut self, publisher: PublisherId) -> Result<()> {
         // SAFETY: the handle is this broker's.
         let code = unsafe { sys::broker_end(self.handle(), publisher.0) };

@@ -40,7 +40,8 @@ impl Broker {
         Ok(self.row_into(subscription, table, key, &mut out)?.then_some(out))
     }
 
-    /// The same into a vector, whose bytes it replaces. Returns whether there is such a row. The vector is empty if not.
+    /// The same into a vector, whose bytes it replaces. Returns whether there is such a row. The vector is empty if
+    /// not.
     ///
     /// # Errors
     /// As [`Broker::row`]. The vector is empty then.

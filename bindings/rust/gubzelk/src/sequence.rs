@@ -30,8 +30,8 @@ impl Broker {
     /// - [`Fault`](crate::Error::Fault) if the bytes spell no changeset.
     /// - [`Holding`](crate::Error::Holding) if the publisher has staged a changeset. It comes before a fault that shows
     ///   only at the end of the bytes.
-    /// - [`UnknownTable`](crate::Error::UnknownTable), [`ShapeDiffers`](crate::Error::ShapeDiffers) if a section doesn't
-    ///   fit the broker's tables.
+    /// - [`UnknownTable`](crate::Error::UnknownTable), [`ShapeDiffers`](crate::Error::ShapeDiffers) if a section
+    ///   doesn't fit the broker's tables.
     /// - [`Closed`](crate::Error::Closed) if the sequence is closed.
     /// - [`JournalFull`](crate::Error::JournalFull), [`SequenceFull`](crate::Error::SequenceFull)
     pub fn place(&mut self, publisher: PublisherId, bytes: &[u8]) -> Result<u64> {

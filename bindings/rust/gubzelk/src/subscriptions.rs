@@ -85,8 +85,8 @@ impl Broker {
         self.number(|b, cursor| unsafe { sys::broker_accept(b, delivery.0, cursor) })
     }
 
-    /// Lets a delivery's subscription fall while it accepts the delivery, as in a test of a program's recovery. It is as
-    /// after the accept if its store has `kept` it, and else as before. It accepts nothing until [`Broker::resume`].
+    /// Lets a delivery's subscription fall while it accepts the delivery, as in a test of a program's recovery. It is
+    /// as after the accept if its store has `kept` it, and else as before. It accepts nothing until [`Broker::resume`].
     /// Returns the last number that it has accepted.
     ///
     /// # Errors

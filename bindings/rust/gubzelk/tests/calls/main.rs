@@ -1,4 +1,5 @@
 //! Each call of `broker.h` by the safe interface, each refusal, and brokers in threads.
+mod complete;
 mod deliveries;
 mod opening;
 mod publishers;
