@@ -245,7 +245,7 @@ mod tests {
     #[test]
     fn each_code_has_a_variant() {
         let why = sys::broker_numbers { first: 7, second: 1 };
-        assert_eq!(codes().len(), 42);
+        assert_eq!(codes().len(), 38);
         for code in codes() {
             let error = Error::new(code, why);
             assert_eq!(error.code(), code);

@@ -15,5 +15,5 @@ fn each_call_is_made() {
             calls += 1;
         }
     }
-    assert_eq!(calls, 43);
+    assert_eq!(calls, 41);
 }
