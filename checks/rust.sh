@@ -84,6 +84,7 @@ mkdir "$work/empty"
 # shellcheck disable=SC2086 # $fails is a command
 {
     says 'no folder' advises 'is no folder' env GUBZELK_LIB_DIR=/no/such/folder $fails
+    says 'a relative folder' advises 'is no absolute path' env GUBZELK_LIB_DIR=lib $fails
     says 'a folder without libraries' advises 'no libbroker_c.a' env GUBZELK_LIB_DIR="$work/empty" $fails
     says 'pkg-config knows nothing' advises 'pkg-config finds no libraries' \
         env -u GUBZELK_LIB_DIR PKG_CONFIG_LIBDIR="$work/empty" $fails

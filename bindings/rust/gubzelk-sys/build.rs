@@ -30,8 +30,13 @@ fn changesets() -> bool {
 /// The folder with the libraries.
 fn folder() -> Result<PathBuf, String> {
     match env::var_os("GUBZELK_LIB_DIR") {
-        Some(folder) if Path::new(&folder).is_dir() => Ok(folder.into()),
-        Some(folder) => Err(format!("GUBZELK_LIB_DIR is {folder:?}, which is no folder.")),
+        Some(folder) if !Path::new(&folder).is_absolute() => {
+            Err(format!("GUBZELK_LIB_DIR is {folder:?}, which is no absolute path."))
+        }
+        Some(folder) if !Path::new(&folder).is_dir() => {
+            Err(format!("GUBZELK_LIB_DIR is {folder:?}, which is no folder."))
+        }
+        Some(folder) => Ok(folder.into()),
         None => {
             let folder = packaged("gubzelk-broker")?;
             if changesets() {
