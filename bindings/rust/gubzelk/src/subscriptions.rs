@@ -33,6 +33,9 @@ impl Broker {
     /// Hands out a subscription's next ready entries; `None` if nothing is ready. [`Broker::deliveries`] does this in a
     /// loop.
     ///
+    /// [`Broker::status`] says why nothing is ready. If `floor` is `front`, all is settled: wait until more is placed. If
+    /// `in_flight` isn't 0, deliveries are out: settle them, or give them back.
+    ///
     /// # Errors
     /// The first of these that applies:
     /// - [`NoSubscription`](Error::NoSubscription)

@@ -17,16 +17,24 @@ extern "C" {
 /// Linux's number of the limit of a process's address space.
 const RLIMIT_AS: i32 = 9;
 
-/// Makes a call with at most 4 MiB more memory than the process has.
+/// Makes a call while no piece of 1 MiB is free: the process can't grow, and what malloc keeps is taken.
 fn short<T>(call: impl FnOnce() -> T) -> T {
     let pages = fs::read_to_string("/proc/self/statm").unwrap();
     let pages: u64 = pages.split(' ').next().unwrap().parse().unwrap();
     let mut limit = Rlimit { soft: 0, hard: 0 };
     // SAFETY: the output is a struct of these calls' layout.
     unsafe { assert_eq!(getrlimit(RLIMIT_AS, &mut limit), 0) };
-    let less = Rlimit { soft: pages * 4096 + (4 << 20), ..limit };
+    let less = Rlimit { soft: pages * 4096, ..limit };
+    let mut taken: Vec<Vec<u8>> = Vec::with_capacity(10_000);
     // SAFETY: as before.
     unsafe { assert_eq!(setrlimit(RLIMIT_AS, &less), 0) };
+    while taken.len() < taken.capacity() {
+        let mut piece = Vec::new();
+        if piece.try_reserve_exact(1 << 20).is_err() {
+            break;
+        }
+        taken.push(piece);
+    }
     let answer = call();
     // SAFETY: as before.
     unsafe { assert_eq!(setrlimit(RLIMIT_AS, &limit), 0) };

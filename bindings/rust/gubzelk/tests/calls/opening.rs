@@ -60,11 +60,13 @@ fn bad_tables() {
         Table::new("t", &[0; 2001]),
     ] {
         assert_eq!(open(&[table]), shape(0), "{table:?}");
-        assert_eq!(open(&[TABLES[0], table]), shape(1), "{table:?}");
+        assert_eq!(open(&[TABLES[1], table]), shape(1), "{table:?}");
     }
     assert_eq!(open(&[Table::new(&long[..1024], &[1])]), Ok(()));
     let repeated = Err(Error::BadTable { place: 1, reason: TableReason::Repeated });
     assert_eq!(open(&[TABLES[0], Table::new("t", &[1])]), repeated);
+    // the name comes before the shape
+    assert_eq!(open(&[TABLES[0], Table::new("t", &[0])]), repeated);
 }
 
 #[test]
