@@ -5,11 +5,11 @@
 //!
 //! ```
 //! // an INSERT, and its inverse: a DELETE of the same row
-//! let insert = b"T\x02\x01\x00t\x00\x12\x00\x01\0\0\0\0\0\0\0\x01\x05";
-//! assert_eq!(gubzelk::changeset::check(insert)?, 1);
-//! let inverse = gubzelk::changeset::invert(insert)?;
+//! let insert = b"T\x02\x01\x00t\x00\x12\x00\x01\0\0\0\0\0\0\0\x01\x05".to_vec();
+//! assert_eq!(gubzelk::changeset::check(&insert)?, 1);
+//! let inverse = gubzelk::changeset::invert(&insert)?;
 //! assert_eq!(inverse[6], 0x09);
-//! assert!(gubzelk::changeset::combine(&[insert, &inverse])?.is_empty());
+//! assert!(gubzelk::changeset::combine(&[insert, inverse])?.is_empty());
 //! # Ok::<(), gubzelk::changeset::Error>(())
 //! ```
 use crate::FaultKind;
