@@ -89,6 +89,7 @@ check gcc sh refused/run.sh
 # the libraries
 check "gcc g++ $RT" sh checks/header.sh
 check "gcc nm pkg-config python3 $RT" sh checks/packaging.sh
+check "cargo gcc pkg-config $RT" sh checks/rust.sh
 check "gcc pkg-config python3 rustc $RT" sh checks/examples.sh
 check "gcc python3 $RT" sh checks/python.sh
 check "gcc $RT" sh checks/leaks.sh
