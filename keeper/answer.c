@@ -68,7 +68,8 @@ static void go_on(struct gz_answer *answer, struct gz_peer *peer, enum gz_at at,
 
 static const char *why_copy(const unsigned char name[16]) {
     static const unsigned char none[16];
-    return gz_same_name(name, none) ? "the file has no place yet" : "the file stands in a broker that this source doesn't have";
+    return gz_same_name(name, none) ? "the file has no place yet"
+                                    : "the file stands in a broker that this source doesn't have";
 }
 
 static void answer_peer(struct gz_shared *it, struct gz_peer *peer, const struct gz_place *at, struct gz_answer *answer,
@@ -102,6 +103,7 @@ void gz_decide_answer(struct gz_shared *it, const struct gz_request *asked, stru
     else if (it->is_broken) say(answer, GZ_TROUBLE, text, "the source had no memory for the last transaction");
     else answer_peer(it, peer, &asked->at, answer, text);
     if (peer && peer->at == GZ_AT_OLD) answer->front += it->old->front;
+    if (answer->kind == GZ_NOTHING) it->wants_news = true;
     drop_old(it);
     pthread_mutex_unlock(&it->lock);
     if (text->failed) gz_free_bytes(text), answer->kind = GZ_TROUBLE;

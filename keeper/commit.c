@@ -24,21 +24,16 @@ static void need(char words[GZ_WORDS], const char *why) {
 static int find_others(struct gz_source *s) {
     int64_t data_version = s->data_version, changes = s->changes;
     uint32_t file_version = s->file_version;
-    struct gz_mark mark;
-    enum gz_found found;
     bool changed;
     int rc = gz_take_versions(s);
     if (rc) return rc;
     if (s->data_version != data_version) need(s->need, "another connection wrote to the database");
     else if (s->changes != changes && s->file_version != file_version)
         need(s->need, "the connection wrote outside of gz_begin and gz_commit");
-    rc = gz_tables_changed(s->db, &s->tables, &changed);
+    rc = gz_schema_changed(s, &changed);
     if (rc) return rc;
     if (changed) need(s->need, "the schema changed");
-    rc = gz_read_mark(s->db, s->table, &mark, &found);
-    if (rc) return rc;
-    if (found != GZ_MARK_FOUND || !gz_same_place(&mark.place, &s->mark.place) || mark.turn != s->mark.turn ||
-        mark.role != GZ_SOURCE_ROLE) need(s->need, "the mark was changed");
+    if (!gz_has_own_mark(s)) need(s->need, "the mark was changed");
     return SQLITE_OK;
 }
 
@@ -169,7 +164,7 @@ static int decide(struct gz_source *s, struct commit *it) {
     it->mark = s->mark, it->mark.turn++, memcpy(it->need, s->need, sizeof it->need);
     sqlite3_file_control(s->db, "main", SQLITE_FCNTL_DATA_VERSION, &version);
     if (version != s->file_version) need(it->need, "the transaction of gz_begin ended before gz_commit");
-    int rc = gz_tables_changed(s->db, &s->tables, &changed);
+    int rc = gz_schema_changed(s, &changed);
     if (!rc && changed) need(it->need, "the schema changed");
     if (!rc && !*it->need) rc = take_changes(s, it);
     if (rc) return rc;
@@ -177,7 +172,7 @@ static int decide(struct gz_source *s, struct commit *it) {
     if (it->is_empty) return SQLITE_OK;
     if (!*it->need && it->text.len) rc = choose_line(s, it);
     if (!rc && *it->need) rc = choose_new(s, it);
-    return rc ? rc : gz_write_mark(s->db, s->table, &it->mark);
+    return rc ? rc : gz_update_mark(s, &it->mark);
 }
 
 /* Says where the database stands once it is visible: a replica may read it before the line has it. */
@@ -211,7 +206,10 @@ static void hand_out(struct gz_source *s, struct commit *it) {
             line->equal.front == now->front);
     }
     shared->is_pending = false;
+    bool wakes = shared->wants_news;
+    shared->wants_news = false;
     pthread_mutex_unlock(&shared->lock);
+    if (wakes) gz_wake(s);
     if (!line) return;
     s->brokers++, memcpy(s->reason, it->reason, sizeof s->reason);
     if (!it->has_tables) return;
@@ -230,7 +228,7 @@ int gz_commit(gz_source *s) {
     if (!rc) {
         end_session(s), s->changes = sqlite3_total_changes64(s->db);
         sqlite3_file_control(s->db, "main", SQLITE_FCNTL_DATA_VERSION, &s->file_version);
-        if (!it.is_empty) hand_out(s, &it), it.line = NULL, gz_wake(s);
+        if (!it.is_empty) hand_out(s, &it), it.line = NULL;
     } else {
         if (is_back) end_session(s);
         set_pending(s, NULL), gz_free_line(it.line);

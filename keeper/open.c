@@ -12,6 +12,7 @@
 
 static void free_source(struct gz_source *s) {
     gz_set_lines(&s->shared, NULL, false);
+    for (int i = 0; i < GZ_STATEMENTS; i++) sqlite3_finalize(s->statement[i]);
     for (int i = 0; i < GZ_MOST_LEFT; i++) free(s->left[i].table), free(s->left[i].key), free(s->left[i].why);
     gz_free_tables(&s->tables), free(s->shared.peer), pthread_mutex_destroy(&s->shared.lock);
     if (s->lock_file >= 0) close(s->lock_file);
@@ -85,6 +86,7 @@ static int open_source(struct gz_source *s, const struct gz_options *options) {
     if (!code) code = gz_code(sqlite3_exec(s->db, "BEGIN IMMEDIATE", NULL, NULL, NULL));
     if (code) return code;
     code = begin_line(s, options && options->replace);
+    if (!code) code = gz_code(gz_prepare_all(s));
     if (!code) gz_note_tables(s, &s->tables);
     if (!code) code = gz_code(gz_take_versions(s));
     if (!code) code = gz_code(sqlite3_exec(s->db, "COMMIT", NULL, NULL, NULL));

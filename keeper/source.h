@@ -30,14 +30,20 @@ struct gz_shared {
     struct gz_place pending;
     /* Whether a commit is in the database and not in `now`: no memory was left for a new line. */
     bool is_broken;
+    /* Whether a replica waits for news. */
+    bool wants_news;
     struct gz_peer *peer;
     size_t peers;
 };
 
 struct gz_service;
 
+/* Statements that each transaction runs. */
+enum gz_statement { GZ_DATA_VERSION, GZ_SCHEMA_VERSION, GZ_READ_MARK, GZ_WRITE_MARK, GZ_STATEMENTS };
+
 struct gz_source {
     sqlite3 *db;
+    sqlite3_stmt *statement[GZ_STATEMENTS];
     char *file, *table, *socket;
     int lock_file;
     uint64_t max_bytes, max_entries;
@@ -70,8 +76,16 @@ void gz_note_tables(struct gz_source *s, const struct gz_tables *tables);
 /* The GZ code for an SQLite code. */
 int gz_code(int sqlite);
 
+/* Prepares the statements. The table of the mark is there. */
+int gz_prepare_all(struct gz_source *s);
 /* Reads data_version, the changes and the version of the file as they are now. */
 int gz_take_versions(struct gz_source *s);
+/* As gz_tables_changed, of the source's tables. */
+int gz_schema_changed(struct gz_source *s, bool *changed);
+/* Whether the mark is the one that the source wrote last. */
+bool gz_has_own_mark(struct gz_source *s);
+/* Writes the mark, whose table may have been changed by others. */
+int gz_update_mark(struct gz_source *s, const struct gz_mark *mark);
 
 /* Ends the lines and what replicas have of them. */
 void gz_set_lines(struct gz_shared *it, struct gz_line *now, bool keeps_old);
