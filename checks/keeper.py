@@ -137,7 +137,7 @@ class Replica:
                     'lag': int(words[4]), 'copies': int(words[5]), 'words': words[6]}
             if step['copies'] > self.copies:
                 self.run.count('copies')
-                self.run.reasons[step['words'][:60]] = self.run.reasons.get(step['words'][:60], 0) + 1
+                self.run.reasons[step['words'][:90]] = self.run.reasons.get(step['words'][:90], 0) + 1
             self.copies = step['copies']
             if step['code'] < 0:
                 raise Bad('%s: step returns %d' % (self.path, step['code']))

@@ -66,10 +66,12 @@ static void go_on(struct gz_answer *answer, struct gz_peer *peer, enum gz_at at,
     peer->at = at, peer->cursor = 0;
 }
 
-static const char *why_copy(const unsigned char name[16]) {
+static void say_copy(struct gz_answer *answer, const struct gz_shared *it, const unsigned char name[16],
+                     struct gz_bytes *text) {
     static const unsigned char none[16];
-    return gz_same_name(name, none) ? "the file has no place yet"
-                                    : "the file stands in a broker that this source doesn't have";
+    bool has_name = !gz_same_name(name, none);
+    say(answer, GZ_COPY, text, has_name ? "the source has another broker since: " : "the file has no place yet");
+    if (has_name) gz_append(text, it->reason, strlen(it->reason));
 }
 
 static void answer_peer(struct gz_shared *it, struct gz_peer *peer, const struct gz_place *at, struct gz_answer *answer,
@@ -87,7 +89,7 @@ static void answer_peer(struct gz_shared *it, struct gz_peer *peer, const struct
     } else if (old && gz_same_name(at->name, old->name) && at->front < old->front) {
         peer->at = GZ_AT_OLD, serve(answer, old, &peer->old, at->front, text);
     } else {
-        say(answer, GZ_COPY, text, why_copy(at->name));
+        say_copy(answer, it, at->name, text);
         /* its snapshot will stand in the present line */
         peer->at = GZ_AT_NOW, peer->is_copying = true;
     }

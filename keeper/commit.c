@@ -26,15 +26,18 @@ static int find_others(struct gz_source *s) {
     uint32_t file_version = s->file_version;
     bool changed;
     int rc = gz_take_versions(s);
-    if (rc) return rc;
+    if (rc) {
+        /* what was read in part says nothing: the next call compares with the last commit again */
+        s->data_version = data_version, s->changes = changes, s->file_version = file_version;
+        return rc;
+    }
     if (s->data_version != data_version) need(s->need, "another connection wrote to the database");
     else if (s->changes != changes && s->file_version != file_version)
         need(s->need, "the connection wrote outside of gz_begin and gz_commit");
     rc = gz_schema_changed(s, &changed);
-    if (rc) return rc;
-    if (changed) need(s->need, "the schema changed");
-    if (!gz_has_own_mark(s)) need(s->need, "the mark was changed");
-    return SQLITE_OK;
+    if (!rc && changed) need(s->need, "the schema changed");
+    if (!rc && !gz_has_own_mark(s)) need(s->need, "the mark was changed");
+    return rc;
 }
 
 static int is_recorded(void *context, const char *name) {
@@ -147,7 +150,8 @@ static int choose_next(struct gz_source *s, struct commit *it, const char *why) 
 static int choose_line(struct gz_source *s, struct commit *it) {
     struct gz_line *now = s->shared.now;
     const char *why = now->front >= s->max_entries ? "the broker has as many entries as it may"
-        : now->front && gz_line_bytes(now) + it->text.len > s->max_bytes ? "the broker holds as many bytes as it may" : NULL;
+        : now->front && gz_line_bytes(now) + it->text.len > s->max_bytes ? "the broker holds as many bytes as it may"
+        : NULL;
     pthread_mutex_lock(&s->shared.lock);
     if (!why && now->is_worn) why = "the broker has no more steps or subscriptions";
     bool has_room = why || gz_reserve(now);
@@ -201,7 +205,7 @@ static void hand_out(struct gz_source *s, struct commit *it) {
     int code = it->places ? gz_place_entry(now, it->text.at, it->text.len) : BROKER_OK;
     if (code) line = replace_refused(s, it, code), shared->is_broken = !line;
     if (line) {
-        shared->is_broken = false;
+        shared->is_broken = false, memcpy(shared->reason, it->reason, sizeof shared->reason);
         gz_set_lines(shared, line, line->has_equal && gz_same_name(line->equal.name, now->name) &&
             line->equal.front == now->front);
     }
@@ -211,7 +215,7 @@ static void hand_out(struct gz_source *s, struct commit *it) {
     pthread_mutex_unlock(&shared->lock);
     if (wakes) gz_wake(s);
     if (!line) return;
-    s->brokers++, memcpy(s->reason, it->reason, sizeof s->reason);
+    s->brokers++;
     if (!it->has_tables) return;
     gz_free_tables(&s->tables), s->tables = it->tables, it->tables = (struct gz_tables){0};
 }

@@ -20,8 +20,8 @@ static int open_snapshot(gz_replica *r) {
     if (!rc) rc = sqlite3_exec(r->from, "BEGIN", NULL, NULL, NULL);
     if (!rc) rc = gz_read_mark(r->from, r->table, &mark, &found);
     if (rc) return gz_lags_sqlite(r, r->from, rc, "the source's file");
-    if (found != GZ_MARK_FOUND || mark.role != GZ_SOURCE_ROLE) return gz_lags(r, "the source's file has no mark of a source");
-    return GZ_OK;
+    bool is_source = found == GZ_MARK_FOUND && mark.role == GZ_SOURCE_ROLE;
+    return is_source ? GZ_OK : gz_lags(r, "the source's file has no mark of a source");
 }
 
 /* Others can read the file while it is copied to if it is in WAL mode. Then both files must have pages of one size. */

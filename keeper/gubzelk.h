@@ -127,7 +127,8 @@ struct gz_options {
  *
  * Where tables have columns with a DEFAULT, rows from before ALTER TABLE ADD COLUMN are rewritten once. SQLite's
  * sessions would record NULL as their old values.
- * Refused: NO_FILE, LONG_PATH, NOT_WAL, IN_TRANSACTION, TAKEN, TABLE_TAKEN, OTHER_ROLE, BUSY, SQLITE, SYSTEM, NO_MEMORY. */
+ * Refused: NO_FILE, LONG_PATH, IN_TRANSACTION, TAKEN, NOT_WAL, TABLE_TAKEN, OTHER_ROLE, BUSY, SQLITE, SYSTEM, NO_MEMORY.
+ */
 int gz_source_open(gz_source **out, sqlite3 *db, const struct gz_options *options);
 
 /* Ends a source. A transaction of gz_begin is rolled back. The connection stays open: close it after this. NULL is
@@ -206,10 +207,10 @@ int gz_source_left(gz_source *s, size_t index, struct gz_left *left);
  * Refused: LONG_PATH, TAKEN, SYSTEM, NO_MEMORY. */
 int gz_replica_open(gz_replica **out, const char *file, const char *source_file, const struct gz_options *options);
 
-/* Brings the file further by at most one batch or one slice of a copy, and waits for news at most `timeout_ms`, plus some
- * 0.2 s for an answer. A copy is read from the source's file by this process: it needs the right to read it. While it
- * is made, others read the replica as it was before. Foreign writes to the file make it a copy: those of other
- * connections while this handle is open, and those that a later change conflicts with.
+/* Brings the file further by at most one batch or one slice of a copy. It waits for news at most `timeout_ms`, plus some
+ * 0.2 s for an answer, and as long again for a locked file. This process reads a copy from the source's file: it needs
+ * the right to read it. While a copy is made, others read the replica as it was before. Foreign writes to the file make
+ * it a copy: those of other connections while this handle is open, and those that a later change conflicts with.
  * Returns OK, IDLE, AWAY, LAGS, or NO_MEMORY, NOT_REPLICA, OTHER_ROLE. */
 int gz_replica_step(gz_replica *r, int timeout_ms);
 

@@ -2,8 +2,8 @@
 #include "mark.h"
 #include <string.h>
 
-#define SHAPE "(one INTEGER PRIMARY KEY, name BLOB, front INTEGER, turn INTEGER, role INTEGER, prepared INTEGER, id BLOB," \
-    " filled INTEGER)"
+#define SHAPE "(one INTEGER PRIMARY KEY, name BLOB, front INTEGER, turn INTEGER, role INTEGER, prepared INTEGER," \
+    " id BLOB, filled INTEGER)"
 
 bool gz_same_name(const unsigned char a[16], const unsigned char b[16]) { return !memcmp(a, b, 16); }
 

@@ -75,7 +75,7 @@ static int begin_line(struct gz_source *s, bool replaces) {
     s->shared.now = gz_open_line(&s->tables, s->max_entries);
     if (!s->shared.now) return GZ_NO_MEMORY;
     memcpy(s->mark.place.name, s->shared.now->name, 16), s->brokers = 1;
-    snprintf(s->reason, sizeof s->reason, "the source was opened");
+    snprintf(s->shared.reason, sizeof s->shared.reason, "the source was opened");
     return gz_code(gz_write_mark(s->db, s->table, &s->mark));
 }
 

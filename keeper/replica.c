@@ -121,7 +121,8 @@ static int take_answer(gz_replica *r) {
     case GZ_GO_ON: code = gz_apply_go_on(r); break;
     case GZ_COPY: code = begin_copy(r); break;
     case GZ_NOTHING:
-        code = r->is_foreign ? gz_lags(r, "others wrote to the source's database; the next gz_commit repairs it") : GZ_IDLE;
+        code = GZ_IDLE;
+        if (r->is_foreign) code = gz_lags(r, "others wrote to the source's database; the next gz_commit repairs it");
         break;
     default:
         r->knows_front = false, code = GZ_LAGS;
@@ -148,7 +149,7 @@ int gz_replica_step(gz_replica *r, int timeout_ms) {
     int code = one_step(r, timeout_ms < 0 ? 0 : timeout_ms);
     /* a caller that calls again at once shall not turn in circles */
     int64_t left = begun + timeout_ms - gz_clock();
-    if (code == GZ_LAGS && left > 0) poll(NULL, 0, left < 100 ? (int)left : 100);
+    if ((code == GZ_LAGS || code == GZ_AWAY) && left > 0) poll(NULL, 0, left < 100 ? (int)left : 100);
     return code;
 }
 
@@ -184,7 +185,8 @@ static int open_replica(gz_replica *r, const char *file, const char *source_file
     const char *prefix = options && options->prefix ? options->prefix : "gz_";
     r->file = sqlite3_mprintf("%s", file), r->source_file = sqlite3_mprintf("%s", source_file);
     r->table = sqlite3_mprintf("%smark", prefix);
-    r->socket = options && options->socket ? sqlite3_mprintf("%s", options->socket) : sqlite3_mprintf("%s-gz", source_file);
+    bool has_socket = options && options->socket;
+    r->socket = has_socket ? sqlite3_mprintf("%s", options->socket) : sqlite3_mprintf("%s-gz", source_file);
     if (!r->file || !r->source_file || !r->table || !r->socket) return GZ_NO_MEMORY;
     if (strlen(r->socket) >= sizeof((struct sockaddr_un *)0)->sun_path) return GZ_LONG_PATH;
     if (options) r->setup = options->setup, r->context = options->context, r->replaces = options->replace;

@@ -30,6 +30,8 @@ struct gz_shared {
     struct gz_place pending;
     /* Whether a commit is in the database and not in `now`: no memory was left for a new line. */
     bool is_broken;
+    /* Why the present line began. */
+    char reason[GZ_WORDS];
     /* Whether a replica waits for news. */
     bool wants_news;
     struct gz_peer *peer;
@@ -58,8 +60,7 @@ struct gz_source {
     sqlite3_session *session;
     /* Why the next commit begins a new line that equals no other, or "". */
     char need[GZ_WORDS];
-    /* Why the last line began, and how many did. */
-    char reason[GZ_WORDS];
+    /* How many lines began. */
     uint64_t brokers;
     /* The last things that were left out, in a ring: table, key and reason, which the library's strings are. */
     struct { char *table, *key, *why; } left[GZ_MOST_LEFT];

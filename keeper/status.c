@@ -11,7 +11,7 @@ int gz_source_status(gz_source *s, struct gz_source_status *status) {
     if (shared->old) status->entries += shared->old->front, status->bytes += gz_line_bytes(shared->old), status->held = 2;
     status->replicas = shared->peers;
     pthread_mutex_unlock(&shared->lock);
-    status->brokers = s->brokers, status->reason = s->reason, status->left = s->left_count;
+    status->brokers = s->brokers, status->reason = shared->reason, status->left = s->left_count;
     return GZ_OK;
 }
 

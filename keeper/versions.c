@@ -84,7 +84,8 @@ static bool has_null_key(struct gz_source *s, const char *table) {
         " pragma_table_info(%Q, 'main') WHERE pk", table))) return false;
     if (sqlite3_step(query) == SQLITE_ROW) where = sqlite3_mprintf("%s", sqlite3_column_text(query, 0));
     sqlite3_finalize(query);
-    if (where) gz_number(s->db, &found, sqlite3_mprintf("SELECT EXISTS (SELECT 1 FROM main.\"%w\" WHERE %s)", table, where));
+    char *sql = where ? sqlite3_mprintf("SELECT EXISTS (SELECT 1 FROM main.\"%w\" WHERE %s)", table, where) : NULL;
+    if (sql) gz_number(s->db, &found, sql);
     sqlite3_free(where);
     return found;
 }

@@ -16,7 +16,8 @@
 #include "broker.h"
 #endif
 
-#define CHECK(x) do { if (!(x)) { printf("line %d, seed %u, round %d: %s\n", __LINE__, seed, turn, #x); exit(1); } } while (0)
+#define CHECK(x) \
+    do { if (!(x)) { printf("line %d, seed %u, round %d: %s\n", __LINE__, seed, turn, #x); exit(1); } } while (0)
 
 enum { TABLES = 6, MOST = 12 };
 static unsigned seed, state;
@@ -74,7 +75,8 @@ static void write_some(sqlite3 *db, bool real_keys) {
         step(db, sql, 1, (unsigned)TABLE[t].key, (int)column, real_keys);
         return;
     case 1: case 2:
-        snprintf(sql, sizeof sql, "UPDATE OR IGNORE %s SET %.*s = ?1 WHERE abs(random()) %% 3 = 0", TABLE[t].name, len, all);
+        snprintf(sql, sizeof sql, "UPDATE OR IGNORE %s SET %.*s = ?1 WHERE (length(quote(%.*s)) + %u) %% 3 = 0",
+            TABLE[t].name, len, all, len, all, dice(3));
         step(db, sql, 1, (unsigned)TABLE[t].key, (int)column, real_keys);
         return;
     default:
@@ -235,7 +237,8 @@ static void group_of_broker(sqlite3 *source, sqlite3 *before, const struct gz_by
     uint64_t last = 0;
     unsigned char none;
     open_broker();
-    for (int i = 0; i < count; i++) CHECK(!broker_place(held, publisher, texts[i].at ? texts[i].at : &none, texts[i].len, &last));
+    for (int i = 0; i < count; i++)
+        CHECK(!broker_place(held, publisher, texts[i].at ? texts[i].at : &none, texts[i].len, &last));
     int64_t len = broker_combined(held, 1, last, &none, 0);
     unsigned char *text = malloc((size_t)len + 1);
     CHECK(len >= 0 && text && broker_combined(held, 1, last, text, (size_t)len) == len);

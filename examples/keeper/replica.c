@@ -20,7 +20,8 @@ static void say(gz_replica *replica, const char *file, int code) {
     if (status.copies != copies) printf("%s becomes a copy: %s\n", file, status.reason);
     if (code != last && code == GZ_LAGS) printf("%s lags: %s\n", file, status.error);
     if (code != last && code == GZ_AWAY) printf("%s: no source listens\n", file);
-    if (code != last && code == GZ_IDLE) printf("%s has everything up to entry %llu\n", file, (unsigned long long)status.number);
+    if (code != last && code == GZ_IDLE)
+        printf("%s has everything up to entry %llu\n", file, (unsigned long long)status.number);
     copies = status.copies, last = code, fflush(stdout);
 }
 
