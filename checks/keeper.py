@@ -309,7 +309,8 @@ class Run:
         elif kind < 55:
             self.lock(replica.path)
         elif kind < 62:
-            self.count('foreign writes to a replica', self.write_foreign(replica.path) if os.path.exists(replica.path) else 0)
+            # while no process keeps the file, only a later conflict finds a foreign write
+            self.count('foreign writes to a replica', self.write_foreign(replica.path) if replica.last else 0)
         elif kind < 68:
             self.count('foreign writes to the source', self.write_foreign('live.db'))
         elif kind < 72:

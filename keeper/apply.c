@@ -71,9 +71,9 @@ static bool has_shape(void *context, const char *name, const unsigned char *key,
 
 /* Reads the schema anew if it was changed. SQLite passes over the changes of a table that isn't there. */
 static int look_at_schema(gz_replica *r) {
-    bool changed;
-    int rc = gz_tables_changed(r->db, &r->tables, &changed);
-    if (rc || !changed) return rc;
+    int64_t version;
+    int rc = gz_number(r->db, &version, sqlite3_mprintf("PRAGMA main.schema_version"));
+    if (rc || version == r->tables.version) return rc;
     gz_free_tables(&r->tables);
     return gz_read_tables(r->db, r->table, &r->tables);
 }

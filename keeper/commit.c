@@ -11,6 +11,7 @@ struct commit {
     struct gz_line *line;
     bool has_tables, is_empty, places;
     struct gz_tables tables;
+    struct gz_versions versions;
     struct gz_mark mark;
     /* Why a new line begins that equals no other, or "", and why any new line does. */
     char need[GZ_WORDS], reason[GZ_WORDS];
@@ -24,6 +25,7 @@ static void need(char words[GZ_WORDS], const char *why) {
 static int find_others(struct gz_source *s) {
     int64_t data_version = s->data_version, changes = s->changes;
     uint32_t file_version = s->file_version;
+    struct gz_versions now;
     bool changed;
     int rc = gz_take_versions(s);
     if (rc) {
@@ -34,7 +36,7 @@ static int find_others(struct gz_source *s) {
     if (s->data_version != data_version) need(s->need, "another connection wrote to the database");
     else if (s->changes != changes && s->file_version != file_version)
         need(s->need, "the connection wrote outside of gz_begin and gz_commit");
-    rc = gz_schema_changed(s, &changed);
+    rc = gz_schema_changed(s, &now, &changed);
     if (!rc && changed) need(s->need, "the schema changed");
     if (!rc && !gz_has_own_mark(s)) need(s->need, "the mark was changed");
     return rc;
@@ -168,7 +170,7 @@ static int decide(struct gz_source *s, struct commit *it) {
     it->mark = s->mark, it->mark.turn++, memcpy(it->need, s->need, sizeof it->need);
     sqlite3_file_control(s->db, "main", SQLITE_FCNTL_DATA_VERSION, &version);
     if (version != s->file_version) need(it->need, "the transaction of gz_begin ended before gz_commit");
-    int rc = gz_schema_changed(s, &changed);
+    int rc = gz_schema_changed(s, &it->versions, &changed);
     if (!rc && changed) need(it->need, "the schema changed");
     if (!rc && !*it->need) rc = take_changes(s, it);
     if (rc) return rc;
@@ -232,6 +234,7 @@ int gz_commit(gz_source *s) {
     if (!rc) {
         end_session(s), s->changes = sqlite3_total_changes64(s->db);
         sqlite3_file_control(s->db, "main", SQLITE_FCNTL_DATA_VERSION, &s->file_version);
+        s->tables.version = it.versions.version, s->tables.statistics = it.versions.statistics;
         if (!it.is_empty) hand_out(s, &it), it.line = NULL;
     } else {
         if (is_back) end_session(s);

@@ -81,8 +81,8 @@ int gz_code(int sqlite);
 int gz_prepare_all(struct gz_source *s);
 /* Reads data_version, the changes and the version of the file as they are now. */
 int gz_take_versions(struct gz_source *s);
-/* As gz_tables_changed, of the source's tables. */
-int gz_schema_changed(struct gz_source *s, bool *changed);
+/* As gz_tables_changed, of the source's tables. It reads `*now` first. */
+int gz_schema_changed(struct gz_source *s, struct gz_versions *now, bool *changed);
 /* Whether the mark is the one that the source wrote last. */
 bool gz_has_own_mark(struct gz_source *s);
 /* Writes the mark, whose table may have been changed by others. */

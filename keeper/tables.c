@@ -41,6 +41,12 @@ static int read_texts(sqlite3 *db, struct gz_bytes *texts) {
     return rc ? rc : texts->failed ? SQLITE_NOMEM : SQLITE_OK;
 }
 
+/* How many tables ANALYZE has made. */
+static int read_statistics(sqlite3 *db, int64_t *out) {
+    return gz_number(db, out, sqlite3_mprintf("SELECT count(*) FROM main.sqlite_schema WHERE name LIKE 'sqlite!_stat%%'"
+        " ESCAPE '!'"));
+}
+
 /* Of each table: its name, its number of columns with those that are generated, and its type. */
 static const char TABLES[] =
     "SELECT name, ncol, type FROM pragma_table_list WHERE schema = 'main' AND type <> 'view' AND"
@@ -91,6 +97,7 @@ int gz_read_tables(sqlite3 *db, const char *mark, struct gz_tables *it) {
     *it = (struct gz_tables){0};
     int rc = gz_number(db, &it->version, sqlite3_mprintf("PRAGMA main.schema_version"));
     if (!rc) rc = read_texts(db, &it->texts);
+    if (!rc) rc = read_statistics(db, &it->statistics);
     if (!rc) rc = gz_prepare(db, &found, sqlite3_mprintf(TABLES, mark));
     while (!rc && sqlite3_step(found) == SQLITE_ROW) rc = read_table(db, it, found);
     int end = sqlite3_finalize(found);
@@ -106,15 +113,14 @@ void gz_free_tables(struct gz_tables *it) {
     *it = (struct gz_tables){0};
 }
 
-int gz_tables_changed(sqlite3 *db, struct gz_tables *it, bool *changed) {
+int gz_tables_changed(sqlite3 *db, const struct gz_tables *it, struct gz_versions *now, bool *changed) {
     struct gz_bytes texts = {0};
-    int64_t version;
-    *changed = false;
-    int rc = gz_number(db, &version, sqlite3_mprintf("PRAGMA main.schema_version"));
-    if (rc || version == it->version) return rc;
-    rc = read_texts(db, &texts);
-    *changed = !rc && (texts.len != it->texts.len || (texts.len && memcmp(texts.at, it->texts.at, texts.len)));
-    if (!rc && !*changed) it->version = version;
+    int rc = read_texts(db, &texts);
+    if (!rc) rc = read_statistics(db, &now->statistics);
+    bool same = !rc && texts.len == it->texts.len && (!texts.len || !memcmp(texts.at, it->texts.at, texts.len));
+    int64_t steps = now->version - it->version, made = now->statistics - it->statistics;
+    /* VACUUM is a step of the version, and so is each table of ANALYZE. DROP and CREATE are two. */
+    *changed = !rc && (!same || steps < 0 || made < 0 || steps > made + 1);
     gz_free_bytes(&texts);
     return rc;
 }

@@ -18,8 +18,8 @@ struct gz_table {
 struct gz_tables {
     struct gz_table *table;
     int count;
-    /* PRAGMA schema_version, and the texts of the schema without SQLite's own tables. */
-    int64_t version;
+    /* PRAGMA schema_version, how many tables ANALYZE has made, and the texts of the schema without SQLite's own tables. */
+    int64_t version, statistics;
     struct gz_bytes texts;
 };
 
@@ -27,9 +27,13 @@ struct gz_tables {
 int gz_read_tables(sqlite3 *db, const char *mark, struct gz_tables *it);
 void gz_free_tables(struct gz_tables *it);
 
-/* Sets `*changed` to whether the schema's texts are others than in `it`. VACUUM and ANALYZE change only the version.
- * If they are the same, it notes the version. Returns an SQLite code. */
-int gz_tables_changed(sqlite3 *db, struct gz_tables *it, bool *changed);
+/* Sets `*changed` to whether the schema was changed since it had the version of `it`: its texts are others, or there was
+ * more than a VACUUM and the first ANALYZE. A table that is dropped and made again has the same text, and other rows, of
+ * which a session sees nothing. `now` has the version and the tables of ANALYZE as they are. Returns an SQLite code. */
+struct gz_versions {
+    int64_t version, statistics;
+};
+int gz_tables_changed(sqlite3 *db, const struct gz_tables *it, struct gz_versions *now, bool *changed);
 
 /* The table of this name, or NULL. */
 const struct gz_table *gz_find_table(const struct gz_tables *it, const char *name);

@@ -38,11 +38,10 @@ int gz_take_versions(struct gz_source *s) {
     return rc;
 }
 
-int gz_schema_changed(struct gz_source *s, bool *changed) {
-    int64_t version = s->tables.version;
-    int rc = read_number(s, GZ_SCHEMA_VERSION, &version);
-    *changed = false;
-    return rc || version == s->tables.version ? rc : gz_tables_changed(s->db, &s->tables, changed);
+int gz_schema_changed(struct gz_source *s, struct gz_versions *now, bool *changed) {
+    *now = (struct gz_versions){s->tables.version, s->tables.statistics}, *changed = false;
+    int rc = read_number(s, GZ_SCHEMA_VERSION, &now->version);
+    return rc || now->version == s->tables.version ? rc : gz_tables_changed(s->db, &s->tables, now, changed);
 }
 
 bool gz_has_own_mark(struct gz_source *s) {

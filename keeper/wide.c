@@ -169,7 +169,8 @@ enum gz_wide gz_widen(const unsigned char *text, size_t len, struct gz_bytes *ou
         }
         if (is_left || is_moved) key_of(&table, &it, key);
         if (is_moved && !is_left) {
-            snprintf(fault, GZ_FAULT_ROOM, "table %.100s, key %s: the letters of the key change", table.name, key);
+            snprintf(fault, GZ_FAULT_ROOM, "table %.100s, key %s: another key that SQLite takes for equal", table.name,
+                key);
             return GZ_WIDE_FAULT;
         }
         if (is_left) {

@@ -27,8 +27,8 @@ typedef void gz_left_out(void *context, const char *table, const char *key, cons
 enum { GZ_FAULT_ROOM = 400 };
 
 /* Appends the widened changeset to `out`. A change with a REAL in its key is left out, and a table without other changes
- * too. Returns GZ_WIDE_FAULT, with words in `fault`, if no replica can be given the whole: an UPDATE changes the letters
- * of a key, or the text is no changeset. */
+ * too. Returns GZ_WIDE_FAULT, with words in `fault`, if no replica can be given the whole: an UPDATE changes a
+ * key to one that SQLite takes for equal, such as other letters under NOCASE, or the text is no changeset. */
 enum gz_wide gz_widen(const unsigned char *text, size_t len, struct gz_bytes *out, gz_left_out *left, void *context,
                       char fault[GZ_FAULT_ROOM]);
 

@@ -147,6 +147,7 @@ static void check_replica(void) {
     run(db, "CREATE TEMP TABLE x (a); INSERT INTO x VALUES (1); BEGIN; UPDATE t SET a = 8; ROLLBACK");
     commit("UPDATE t SET a = 7 WHERE id = 1");
     CHECK(until(r, GZ_IDLE).copies == 3);
+    CHECK(until(r, GZ_IDLE).copies == 3);
     /* others write to the replica */
     foreign("copy.db", "UPDATE t SET a = 10 WHERE id = 3");
     it = until(r, GZ_IDLE);
@@ -163,6 +164,28 @@ static void check_replica(void) {
     CHECK(strstr(it.error, "locked") && it.lag);
     run(other, "ROLLBACK"), sqlite3_close(other);
     CHECK(until(r, GZ_IDLE).copies == 5 && of_file("copy.db", "SELECT sum(a) FROM t") == 55);
+}
+
+/* What sessions see nothing of. */
+static void check_unseen(void) {
+    /* a table is dropped and made again, with the same text: its rows are gone */
+    commit("CREATE TABLE again (id INTEGER PRIMARY KEY); INSERT INTO again VALUES (1), (2)");
+    until(r, GZ_IDLE);
+    run(db, "VACUUM");
+    commit("DROP TABLE again; CREATE TABLE again (id INTEGER PRIMARY KEY); INSERT INTO again VALUES (3)");
+    CHECK(strstr(reason(), "schema"));
+    until(r, GZ_IDLE);
+    CHECK(of_file("copy.db", "SELECT sum(id) FROM again") == 3);
+    run(db, "DROP TABLE again; CREATE TABLE again (id INTEGER PRIMARY KEY)");
+    CHECK(gz_begin(s) == GZ_OK && gz_commit(s) == GZ_OK && strstr(reason(), "schema"));
+    until(r, GZ_IDLE);
+    CHECK(of_file("copy.db", "SELECT count(*) FROM again") == 0);
+    /* the transaction of gz_begin is another one at gz_commit */
+    CHECK(gz_begin(s) == GZ_OK);
+    run(db, "INSERT INTO again VALUES (4); COMMIT; BEGIN; INSERT INTO again VALUES (5)");
+    CHECK(gz_commit(s) == GZ_OK && strstr(reason(), "ended before"));
+    until(r, GZ_IDLE);
+    CHECK(of_file("copy.db", "SELECT sum(id) FROM again") == 9);
 }
 
 /* Shapes, what doesn't travel, and what is too long. */
@@ -189,7 +212,7 @@ static void check_shapes(void) {
     CHECK(status.left == count + 1 && !gz_source_left(s, 0, &left) && !strcmp(left.table, "odd") && !strcmp(left.key, "1.5"));
     CHECK(of_file("copy.db", "SELECT count(*) FROM odd") == 1 && gz_source_left(s, 64, &left) == GZ_IDLE);
     commit("UPDATE n SET k = 'A'");
-    CHECK(strstr(reason(), "letters") && until(r, GZ_IDLE).copies == it.copies + 1);
+    CHECK(strstr(reason(), "for equal") && until(r, GZ_IDLE).copies == it.copies + 1);
     commit("INSERT INTO t VALUES (20, zeroblob(17000000), 1)");
     CHECK(strstr(reason(), "16,777,216") && until(r, GZ_IDLE).copies == it.copies + 2);
     CHECK(of_file("copy.db", "SELECT length(a) FROM t WHERE id = 20") == 17000000);
@@ -248,7 +271,7 @@ static void check_strangers(void) {
 
 int main(int count, char **words) {
     if (count != 2 || chdir(words[1])) return 2;
-    check_open(), check_transactions(), check_replica(), check_shapes(), check_brokers(), check_strangers();
+    check_open(), check_transactions(), check_replica(), check_shapes(), check_unseen(), check_brokers(), check_strangers();
     gz_source_close(s);
     until(r, GZ_AWAY), gz_replica_close(r);
     /* a source's file is no replica's, and a replica's no source's */
