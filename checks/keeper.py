@@ -169,7 +169,9 @@ class Run:
         self.programs, self.dice = programs, random.Random(seed)
         self.end_at = time.monotonic() + seconds
         self.counts, self.reasons, self.columns = {}, {}, 0
-        self.max_bytes = 400000
+        self.max_bytes = 200000
+        # in a calm round no transaction costs a copy, and brokers follow one another
+        self.is_calm = False
         db = sqlite3.connect('live.db')
         db.execute('PRAGMA journal_mode = WAL')
         for sql in SCHEMA:
@@ -209,8 +211,8 @@ class Run:
             lambda: "DELETE FROM account WHERE id = %d; INSERT INTO account VALUES (%d, 'owner %d', 1000, 0.5)" % (one, one, one),
             lambda: 'UPDATE OR IGNORE account SET id = id + 1000 WHERE id = %d; UPDATE OR IGNORE account SET id = id - 1000'
                     ' WHERE id > 1000' % one,
-            lambda: 'INSERT OR REPLACE INTO odd VALUES (%s, %s)' % (self.value(), self.value()),
-            lambda: 'DELETE FROM odd WHERE k = %s' % self.value(),
+            lambda: 'INSERT OR REPLACE INTO odd VALUES (%s, %s)' % (n(9) if self.is_calm else self.value(), self.value()),
+            lambda: 'DELETE FROM odd WHERE k = %s' % (n(9) if self.is_calm else self.value()),
             lambda: 'INSERT INTO keyless VALUES (%d); INSERT INTO made (a) VALUES (%d)' % (one, two),
             lambda: 'UPDATE grown SET v = %s WHERE id %% 7 = %d' % (self.value(), n(7)),
             lambda: 'DELETE FROM grown WHERE id = %d; INSERT INTO grown (id, v) VALUES (%d, %s)' % (n(60), 60 + n(60), self.value())
@@ -229,6 +231,8 @@ class Run:
 
     def transaction(self):
         parts = [self.statement() for _ in range(1 + self.dice.randrange(4))]
+        if self.is_calm:
+            return '%s %s' % ('r' if self.dice.randrange(20) == 0 else 't', '; '.join(parts))
         if self.dice.randrange(40) == 0:
             parts.append(self.swap())
         if self.dice.randrange(150) == 0:
@@ -292,7 +296,9 @@ class Run:
     def event(self):
         """something that happens to the processes or the files"""
         replica = self.dice.choice(self.replicas)
-        kind = self.dice.randrange(100)
+        kind = self.dice.randrange(55 if self.is_calm else 100)
+        if self.is_calm and 35 <= kind < 45:
+            return
         if kind < 25:
             replica.kill()
             self.count('kills of replicas')
@@ -374,12 +380,13 @@ class Run:
         self.count('foreign writes at rest')
 
     def round(self):
-        for _ in range(self.dice.choice([20, 100, 300])):
+        self.is_calm = self.dice.randrange(2) == 0
+        for _ in range(1500 if self.is_calm else self.dice.choice([20, 100, 300])):
             if time.monotonic() > self.end_at:
                 break
             self.commit(self.transaction())
             self.read_all()
-            if self.dice.randrange(12) == 0:
+            if self.dice.randrange(100 if self.is_calm else 12) == 0:
                 self.event()
         for replica in self.replicas:
             if replica.is_stopped:
@@ -391,6 +398,8 @@ class Run:
             self.count('kills of the writer')
         self.commit('t UPDATE uniq SET id = id')
         self.compare()
+        brokers = int(self.writer.say('s').split(' ')[5])
+        self.count('brokers', brokers)
         if self.dice.randrange(3) == 0:
             self.foreign_at_rest()
             self.compare()
