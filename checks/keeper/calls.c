@@ -269,9 +269,38 @@ static void check_strangers(void) {
     gz_replica_close(other);
 }
 
+static int set_up(void *context, sqlite3 *on) {
+    ++*(int *)context;
+    return on ? SQLITE_OK : SQLITE_ERROR;
+}
+
+/* Other names of the mark and the socket, and a call for each connection to a replica's file. */
+static void check_options(void) {
+    int calls = 0;
+    struct gz_options options = {.prefix = "x \"y", .socket = "a socket", .set_wal = 1, .setup = set_up, .context = &calls};
+    gz_source *source;
+    gz_replica *replica;
+    sqlite3 *other;
+    CHECK(!sqlite3_open("named.db", &other) && !access("named.db", F_OK));
+    run(other, "CREATE TABLE t (a INTEGER PRIMARY KEY)");
+    CHECK(gz_source_open(&source, other, &options) == GZ_OK && !access("a socket", F_OK));
+    CHECK(gz_replica_open(&replica, "named copy.db", "named.db", &options) == GZ_OK && gz_begin(source) == GZ_OK);
+    run(other, "INSERT INTO t VALUES (1)");
+    CHECK(gz_commit(source) == GZ_OK && until(replica, GZ_IDLE).copies == 1 && calls == 1);
+    CHECK(of_file("named copy.db", "SELECT front FROM \"x \"\"ymark\"") == 1);
+    /* the socket of a process that has ended is replaced */
+    gz_source_close(source);
+    CHECK(access("a socket", F_OK));
+    int file = socket(AF_UNIX, SOCK_STREAM, 0);
+    struct sockaddr_un at = {.sun_family = AF_UNIX, .sun_path = "a socket"};
+    CHECK(file >= 0 && !bind(file, (struct sockaddr *)&at, sizeof at) && !close(file) && !access("a socket", F_OK));
+    CHECK(gz_source_open(&source, other, &options) == GZ_OK && until(replica, GZ_IDLE).copies == 2);
+    gz_source_close(source), gz_replica_close(replica), sqlite3_close(other);
+}
+
 int main(int count, char **words) {
     if (count != 2 || chdir(words[1])) return 2;
-    check_open(), check_transactions(), check_replica(), check_shapes(), check_unseen(), check_brokers(), check_strangers();
+    check_open(), check_transactions(), check_replica(), check_shapes(), check_unseen(), check_brokers(), check_strangers(), check_options();
     gz_source_close(s);
     until(r, GZ_AWAY), gz_replica_close(r);
     /* a source's file is no replica's, and a replica's no source's */
