@@ -105,7 +105,6 @@ void gz_decide_answer(struct gz_shared *it, const struct gz_request *asked, stru
     else if (it->is_broken) say(answer, GZ_TROUBLE, text, "the source had no memory for the last transaction");
     else answer_peer(it, peer, &asked->at, answer, text);
     if (peer && peer->at == GZ_AT_OLD) answer->front += it->old->front;
-    if (answer->kind == GZ_NOTHING) it->wants_news = true;
     drop_old(it);
     pthread_mutex_unlock(&it->lock);
     if (text->failed) gz_free_bytes(text), answer->kind = GZ_TROUBLE;

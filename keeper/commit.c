@@ -212,10 +212,8 @@ static void hand_out(struct gz_source *s, struct commit *it) {
             line->equal.front == now->front);
     }
     shared->is_pending = false;
-    bool wakes = shared->wants_news;
-    shared->wants_news = false;
     pthread_mutex_unlock(&shared->lock);
-    if (wakes) gz_wake(s);
+    gz_wake(s);
     if (!line) return;
     s->brokers++;
     if (!it->has_tables) return;

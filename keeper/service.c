@@ -136,6 +136,7 @@ static void wait_and_serve(struct gz_service *it, struct pollfd *polled) {
     polled[count + 1] = (struct pollfd){count < MOST_CLIENTS ? it->listener : -1, POLLIN, 0};
     if (poll(polled, (nfds_t)count + 2, next_deadline(it)) < 0) return;
     bool has_news = polled[count].revents && read(it->wake, &news, sizeof news) == sizeof news;
+    if (has_news) look_at_file(it);
     /* from the last one, since a client that ends is replaced by the last */
     for (int i = count - 1; i >= 0; i--)
         if (!serve_client(it, &it->client[i], polled[i].revents, has_news)) close_client(it, i);

@@ -32,8 +32,6 @@ struct gz_shared {
     bool is_broken;
     /* Why the present line began. */
     char reason[GZ_WORDS];
-    /* Whether a replica waits for news. */
-    bool wants_news;
     struct gz_peer *peer;
     size_t peers;
 };
@@ -91,7 +89,8 @@ int gz_update_mark(struct gz_source *s, const struct gz_mark *mark);
 /* Ends the lines and what replicas have of them. */
 void gz_set_lines(struct gz_shared *it, struct gz_line *now, bool keeps_old);
 
-/* Starts and stops the service thread. gz_wake says that there is news. */
+/* Starts and stops the service thread. gz_wake says that there is news: the thread looks at the file, so that it can
+ * tell what others write after this commit, and answers those who wait. */
 int gz_start_service(struct gz_source *s);
 void gz_stop_service(struct gz_source *s);
 void gz_wake(struct gz_source *s);

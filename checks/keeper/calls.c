@@ -141,20 +141,24 @@ static void check_replica(void) {
     run(db, "UPDATE t SET a = 7");
     CHECK(gz_begin(s) == GZ_OK && gz_commit(s) == GZ_OK && strstr(reason(), "outside"));
     CHECK(until(r, GZ_IDLE).copies == 3 && of_file("copy.db", "SELECT sum(a) FROM t") == 35);
+    /* a foreign write after a commit, between which no replica asked */
+    commit("UPDATE t SET a = 7 WHERE id = 3");
+    usleep(100000), foreign("live.db", "UPDATE t SET b = 8.5 WHERE id = 3");
+    CHECK(until(r, GZ_LAGS).foreign && gz_begin(s) == GZ_OK && gz_commit(s) == GZ_OK && until(r, GZ_IDLE).copies == 4);
     /* these are no foreign writes */
     run(db, "VACUUM; ANALYZE");
     commit("UPDATE t SET a = 9 WHERE id = 1");
     run(db, "CREATE TEMP TABLE x (a); INSERT INTO x VALUES (1); BEGIN; UPDATE t SET a = 8; ROLLBACK");
     commit("UPDATE t SET a = 7 WHERE id = 1");
-    CHECK(until(r, GZ_IDLE).copies == 3);
-    CHECK(until(r, GZ_IDLE).copies == 3);
+    CHECK(until(r, GZ_IDLE).copies == 4);
+    CHECK(until(r, GZ_IDLE).copies == 4);
     /* others write to the replica */
     foreign("copy.db", "UPDATE t SET a = 10 WHERE id = 3");
     it = until(r, GZ_IDLE);
-    CHECK(it.copies == 4 && strstr(it.reason, "another connection") && of_file("copy.db", "SELECT a FROM t WHERE id = 3") == 7);
+    CHECK(it.copies == 5 && strstr(it.reason, "another connection") && of_file("copy.db", "SELECT a FROM t WHERE id = 3") == 7);
     /* the file is removed */
     CHECK(!unlink("copy.db") && !unlink("copy.db-wal") && !unlink("copy.db-shm"));
-    CHECK(until(r, GZ_IDLE).copies == 5 && of_file("copy.db", "SELECT count(*) FROM t") == 5);
+    CHECK(until(r, GZ_IDLE).copies == 6 && of_file("copy.db", "SELECT count(*) FROM t") == 5);
     /* a locked file */
     sqlite3 *other;
     CHECK(!sqlite3_open("copy.db", &other));
@@ -163,7 +167,7 @@ static void check_replica(void) {
     it = until(r, GZ_LAGS);
     CHECK(strstr(it.error, "locked") && it.lag);
     run(other, "ROLLBACK"), sqlite3_close(other);
-    CHECK(until(r, GZ_IDLE).copies == 5 && of_file("copy.db", "SELECT sum(a) FROM t") == 55);
+    CHECK(until(r, GZ_IDLE).copies == 6 && of_file("copy.db", "SELECT sum(a) FROM t") == 55);
 }
 
 /* What sessions see nothing of. */
