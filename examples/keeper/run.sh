@@ -51,15 +51,15 @@ mkfifo input || exit 2
 sqlite3 live.db 'CREATE TABLE item (id INTEGER PRIMARY KEY, name TEXT, price REAL);
     CREATE TABLE total (id INTEGER PRIMARY KEY, amount REAL); INSERT INTO total VALUES (1, 0.5)' || exit 2
 writes
-./replica one.db live.db >>one.log &
+./replica one.db live.db 3>&- >>one.log &
 one=$!
-./replica two.db live.db >>two.log &
+./replica two.db live.db 3>&- >>two.log &
 two=$!
 inserts 1 300 >&3
 has 200
 kill -9 "$one" && wait "$one" 2>/dev/null
 echo 'the process of one.db is killed, and starts again'
-./replica one.db live.db >>one.log &
+./replica one.db live.db 3>&- >>one.log &
 one=$!
 kill -9 "$writer" && wait "$writer" 2>/dev/null
 echo 'the writing program is killed, and starts again'
