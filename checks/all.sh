@@ -97,6 +97,8 @@ check "gcc g++ valgrind $RT" sh checks/library.sh
 check "gcc sqlite3 $RT" sh examples/replicate/run.sh
 check "gcc sqlite3 $RT" sh checks/record.sh
 check "gcc python3 $RT" sh checks/replicate.sh "$SEED"
+check "gcc sqlite3 $RT" sh examples/keeper/run.sh
+check "gcc g++ python3 valgrind $RT" sh checks/keeper.sh 60 "$SEED"
 
 if $long; then
     check 'gcc sqlite3' python3 checks/hostile.py
