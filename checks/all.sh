@@ -88,7 +88,7 @@ check gcc sh refused/run.sh
 
 # the libraries
 check "gcc g++ $RT" sh checks/header.sh
-check "gcc nm pkg-config python3 $RT" sh checks/packaging.sh
+check "gcc nm readelf pkg-config python3 $RT" sh checks/packaging.sh
 check "cargo gcc pkg-config $RT" sh checks/rust.sh
 check "gcc pkg-config python3 rustc $RT" sh checks/examples.sh
 check "gcc python3 $RT" sh checks/python.sh
@@ -107,6 +107,7 @@ if $long; then
     check 'python3 sqlite3' sh checks/killed.sh 200 "$SEED"
     check "$RT" sh checks/machines.sh "$SEED"
     check python3 sh checks/soak.sh "$SEED"
+    check "gcc objdump dpkg-deb python3 debootstrap $RT" sh checks/release.sh
     check 'gcc addr2line' sh refused/tests.sh cs_tests
     # the tests that ask for memory, and not more often than anybody waits for
     export ONLY='^tests::(desks|groups|limits::limits|lists|runs::runs|streams::(lines|showing|what|write)|texts)'

@@ -1,14 +1,14 @@
 #!/bin/sh
 # Checks packaging/install.sh: it installs both libraries into a clean folder, and there a C program is built by
-# pkg-config alone, with one library and with both, and runs. The shared object loads, and shows the calls of the
-# headers alone. The version is everywhere the one of the file VERSION. It prints a line for each check, and ends with
-# status 1 where one fails.
-#   sh checks/packaging.sh        needs gcc, nm, pkg-config, python3 and what `rt lib` leaves in crates/broker_c and
-#                                 crates/changeset_c. Debian's packages: gcc binutils pkg-config python3
+# pkg-config alone, with one library, with both and with the shared one, and runs, also after the folder has moved. The
+# shared object loads, and shows the calls of the headers alone. The version is everywhere the one of the file VERSION. It
+# prints a line for each check, and ends with status 1 where one fails.
+#   sh checks/packaging.sh        needs gcc, nm, readelf, pkg-config, python3 and what `rt lib` leaves in crates/broker_c
+#                                 and crates/changeset_c. Debian's packages: gcc binutils pkg-config python3
 # RT names the prover's command where it isn't `rt`.
 # shellcheck disable=SC2046 # pkg-config's words are the compiler's
 . "$(dirname "$0")/begin.sh"
-for command in gcc nm pkg-config python3; do
+for command in gcc nm readelf pkg-config python3; do
     command -v $command >"$work/path" || fail "no command $command" 2
 done
 
@@ -21,21 +21,26 @@ refuses() {
 
 says 'no operand is refused' refuses usage
 says 'a relative folder is refused' refuses 'absolute path' here
+says 'nothing is removed by a checkout' refuses 'only a release' --remove /opt/some
 sh packaging/install.sh "$work/prefix" || fail 'nothing is installed' 2
-prefix=$work/prefix top=$PWD
+prefix=$work/prefix top=$PWD version=$(cat VERSION)
 export PKG_CONFIG_PATH="$prefix/lib/pkgconfig"
 
-# all that is installed
+# all that is installed, but what keeper/ adds
 listed() {
-    (cd "$prefix" && find . -type f | sort) >"$work/files" && cmp "$work/files" - <<END
+    (cd "$prefix" && find . ! -type d | grep -v 'keeper\|gubzelk\.h' | LC_ALL=C sort) >"$work/files" &&
+        cmp "$work/files" - <<END
 ./include/gubzelk/broker.h
 ./include/gubzelk/changeset.h
 ./lib/libbroker_c.a
 ./lib/libchangeset_c.a
 ./lib/libgubzelk.so
+./lib/libgubzelk.so.${version%%.*}
+./lib/libgubzelk.so.$version
 ./lib/libgubzelk_heap.a
 ./lib/pkgconfig/gubzelk-broker.pc
 ./lib/pkgconfig/gubzelk-changeset.pc
+./lib/pkgconfig/gubzelk.pc
 END
 }
 
@@ -121,7 +126,6 @@ whole() {
 says 'all of both archives in one program' whole
 
 # one version
-version=$(cat VERSION)
 cat >"$work/version.c" <<'END'
 #include <broker.h>
 #include <stdio.h>
@@ -130,7 +134,11 @@ END
 says 'the version of rb_run' \
     test "$(sed -n 's/^const VERSION: &str = "\(.*\)";$/\1/p' crates/rb_run/src/command.rt)" = "$version"
 says 'the version of the packages' \
-    test "$(pkg-config --modversion gubzelk-broker gubzelk-changeset | uniq)" = "$version"
+    test "$(pkg-config --modversion gubzelk gubzelk-broker gubzelk-changeset | uniq)" = "$version"
+says 'the version of CHANGELOG.md' test "$(sed -n 's/^## \[\([0-9.]*\)\].*/\1/p' CHANGELOG.md | head -n 1)" = "$version"
+for file in bindings/python/pyproject.toml bindings/rust/Cargo.toml; do
+    [ ! -e $file ] || says "the version of $file" grep -qx "version = \"$version\"" $file
+done
 says 'a program that prints the version, built' builds version gubzelk-broker
 says 'the version of the header and of the library' prints \
     "$(echo "$version" | awk -F . '{ n = $1 * 1000000 + $2 * 1000 + $3; print $0, n, n }')" "$work/version"
@@ -159,15 +167,25 @@ assert 0 < library.broker_message(-16, words, ctypes.c_size_t(64)) <= 64 and wor
 END
 }
 says 'the shared object loads' loads
-says 'a program over the shared object, built' gcc "$work/both.c" $(pkg-config --cflags gubzelk-broker) \
-    "$prefix/lib/libgubzelk.so" -Wl,-rpath,"$prefix/lib" -o "$work/shared"
-says 'it runs' prints 'operation 9' "$work/shared"
+# needs_soname FILE: it needs the shared object by its soname
+needs_soname() {
+    readelf -d "$1" | grep -q "(NEEDED).*\[libgubzelk\.so\.${version%%.*}\]"
+}
+cp "$work/both.c" "$work/shared.c"
+says 'a program over the shared object, built' builds shared gubzelk
+says 'it needs the soname' needs_soname "$work/shared"
+says 'it runs' prints 'operation 9' env LD_LIBRARY_PATH="$prefix/lib" "$work/shared"
 
-# files under DESTDIR name PREFIX alone
+# files under DESTDIR name no folder
 staged() {
-    files=$work/stage/opt/some/lib/pkgconfig
     DESTDIR=$work/stage sh packaging/install.sh /opt/some && [ -e "$work/stage/opt/some/lib/libgubzelk.so" ] &&
-        grep -qx 'prefix=/opt/some' "$files/gubzelk-broker.pc" && ! grep -rq -e "$work" -e "$top" "$files"
+        ! grep -r -e "$work" -e "$top" -e /opt/some "$work/stage/opt/some/lib/pkgconfig"
 }
 says 'files under DESTDIR' staged
+mv "$work/stage/opt/some" "$work/moved"
+export PKG_CONFIG_PATH="$work/moved/lib/pkgconfig"
+rm -r "$prefix"
+cp "$work/short.c" "$work/again.c"
+says 'a broker over a folder that has moved, built' builds again gubzelk-broker
+says 'it runs' prints 'settled up to entry 1' "$work/again"
 none_failed checks

@@ -60,6 +60,9 @@ fails 'install.sh, no PREFIX' usage sh packaging/install.sh
 fails 'table.sh, no NAME' usage sh docs/table.sh
 fails 'table.sh, no such file' 'no docs/none.tsv' sh docs/table.sh none
 fails 'refusals.sh, no such crate' 'no row of none' sh docs/refusals.sh none
+fails 'packaging/release.sh, two operands' usage sh packaging/release.sh one two
+fails 'pages.py, no PROGRAM' usage python3 packaging/pages.py out
+fails 'wheel.py, no LIBRARY' usage python3 packaging/wheel.py
 
 # Nothing is built.
 fails 'all.sh, nothing is built' 'missing: crates/rb_run/out/rb_run (rt run), ' sh checks/all.sh
@@ -85,6 +88,9 @@ fails 'header.sh, no library' 'no crates' sh checks/header.sh
 fails 'library.sh, no library' 'no crates' sh checks/library.sh
 fails 'install.sh, no library' 'no crates' sh packaging/install.sh "$work/prefix"
 fails 'packaging.sh, no library' 'nothing is installed' sh checks/packaging.sh
+fails 'packaging/release.sh, no program' 'no .*rb_run' sh packaging/release.sh "$work/dist"
+make "$work/root/debootstrap" "$exits"
+fails 'release.sh, no release' 'no release is made' env PATH="$work/root:$PATH" sh checks/release.sh
 fails 'examples.sh, no library' 'nothing is installed' sh checks/examples.sh
 fails 'python.sh, no library' 'nothing is installed' sh checks/python.sh
 fails 'python.sh, no interpreter' 'no command' sh checks/python.sh no-such-python
@@ -117,6 +123,7 @@ fails 'bench/drive/run.sh, nothing is made' 'no program' sh bench/drive/run.sh
 
 # The program only exits.
 make "$program" "$exits"
+fails 'pages.py, a program that only exits' 'no commands' python3 packaging/pages.py "$work/pages" "$program" include/broker.h
 fails 'run.sh, a program that only exits' 'checks failed' sh checks/run.sh
 fails 'drive.sh, a program that only exits' 'drives are bad' sh checks/drive.sh
 fails 'drives.py, a program that only exits' 'answers otherwise' python3 checks/drives.py

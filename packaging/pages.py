@@ -230,7 +230,7 @@ class Help:
     def __init__(self, program, *words):
         lines = subprocess.run([program, *words, '--help'], check=True, stdout=subprocess.PIPE, text=True).stdout.split('\n')
         self.about = lines[0]
-        self.usage = next(each[7:] for each in lines if each.startswith('Usage: '))
+        self.usage = next((each[7:] for each in lines if each.startswith('Usage: ')), '')
         self.listed, last, end = {'Commands:': [], 'Options:': []}, None, 0
         for at, each in enumerate(lines):
             if each in self.listed:

@@ -4,6 +4,10 @@
  *     (cd crates/broker_c && rt lib)
  *     gcc -O2 -I include examples/broker/run.c crates/broker_c/out/libbroker_c.a \
  *         "$(dirname "$(rt doc)")/c/liblibc_c.a" -o run
+ *
+ * With the library installed (docs/INSTALL.md) this one does:
+ *
+ *     gcc -O2 run.c $(pkg-config --cflags --libs gubzelk-broker) -o run
  */
 #include "broker.h"
 #include <inttypes.h>

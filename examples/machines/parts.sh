@@ -5,7 +5,9 @@
 #   work    a folder for all files
 # PORT is the first of six ports, three for clients and three between the servers. RT names the prover's command where
 # it isn't `rt`; CFLAGS are more words for the compiler.
-: "${PORT:=24222}" "${RT:=rt}"
+: "${PORT:=24222}"
+# shellcheck source=../find.sh
+. "$top/examples/find.sh"
 urls=nats://127.0.0.1:$PORT,nats://127.0.0.1:$((PORT + 1)),nats://127.0.0.1:$((PORT + 2))
 routes=nats-route://127.0.0.1:$((PORT + 3)),nats-route://127.0.0.1:$((PORT + 4)),nats-route://127.0.0.1:$((PORT + 5))
 packages='gcc libc6-dev libsqlite3-dev sqlite3 nats-server libnats-dev'
@@ -27,18 +29,12 @@ install_packages() {
 
 # prepare: compiles the programs into the folder, over the two libraries
 prepare() {
-    libraries=
-    for crate in broker_c changeset_c; do
-        [ -e "$top/crates/$crate/out/lib$crate.a" ] || fail "no library in crates/$crate: see docs/C.md"
-        libraries="$libraries $top/crates/$crate/out/lib$crate.a"
-    done
-    heap="$(dirname "$($RT doc)")/c/liblibc_c.a"
-    [ -e "$heap" ] || fail "no $heap: the command $RT names no toolchain"
+    with_libraries 'broker changeset' true
     install_packages
     for program in origin replica stream; do
         # shellcheck disable=SC2086
-        gcc -std=c99 -D_POSIX_C_SOURCE=200809L -Wall -Wextra -pedantic -O2 $CFLAGS -I "$top/include" \
-            "$top/examples/machines/$program.c" $libraries "$heap" -lnats -lsqlite3 -lpthread -o "$work/$program" ||
+        with_libraries 'broker changeset' gcc -std=c99 -D_POSIX_C_SOURCE=200809L -Wall -Wextra -pedantic -O2 $CFLAGS \
+            "$top/examples/machines/$program.c" -lnats -lsqlite3 -lpthread -o "$work/$program" ||
             fail "$program.c is not compiled"
     done
 }

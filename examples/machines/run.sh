@@ -3,10 +3,10 @@
 # its transactions. It stops what it started. The status is 0 if all files are equal (docs/MACHINES.md).
 #   sh examples/machines/run.sh [TRANSACTIONS [BATCH]]    2000, and 16: the most changesets in a replica's transaction
 # It installs gcc, libsqlite3-dev, sqlite3, nats-server and libnats-dev where they are missing, and needs the two
-# libraries (docs/C.md). What it made stays in examples/machines/out. parts.sh names the variables that change ports and
-# tools.
+# libraries (docs/C.md). What it made stays in examples/machines/out, or in the new folder that OUT names. parts.sh names the
+# variables that change ports and tools.
 here=$(cd "$(dirname "$0")" && pwd) || exit 2
-top=$(cd "$here/../.." && pwd) work=$here/out
+top=$(cd "$here/../.." && pwd) work=${OUT:-$here/out}
 fail() {
     echo "run.sh: $1" >&2
     exit 1
@@ -14,8 +14,9 @@ fail() {
 # shellcheck source=parts.sh
 . "$here/parts.sh"
 
+[ -z "$OUT" ] || [ ! -e "$OUT" ] || fail "$OUT is there already"
 rm -rf "$work"
-mkdir -p "$work" || exit 2
+mkdir -p "$work" && work=$(cd "$work" && pwd) || fail "no folder $work: OUT names another"
 trap stop_all EXIT
 trap 'exit 2' INT TERM HUP
 prepare

@@ -1,11 +1,13 @@
 #!/bin/sh
 # Runs SQL on a copy of a database, keeps two replicas of it up to date through the broker's library, and compares all
-# three (docs/REPLICATE.md). They are examples/replicate/out/live.db, one.db and two.db. The status is 0 if they are
+# three (docs/REPLICATE.md). They are live.db, one.db and two.db in examples/replicate/out. The status is 0 if they are
 # equal.
 #   sh examples/replicate/run.sh [DATABASE SQL-FILE]        without operands, a sample of six tables and 12,000 changes
-# It needs gcc, SQLite's library with sessions and its shell (Debian's gcc, libsqlite3-dev, sqlite3), and what `rt lib`
-# leaves in crates/broker_c. RT names the prover's command where it isn't `rt`; CFLAGS are more words for the compiler.
-# CAPACITY is the most entries of a broker, 65536 if it isn't set, and SYNCHRONOUS what PRAGMA synchronous is: normal.
+# It needs gcc, SQLite's library with sessions and its shell (Debian's gcc, libsqlite3-dev, sqlite3), and the library:
+# what `rt lib` leaves in crates/broker_c, or a release or an installed library and pkg-config (docs/INSTALL.md). OUT is
+# another folder for the files. RT names the prover's command where it isn't `rt`; CFLAGS are more words for the
+# compiler. CAPACITY is the most entries of a broker, 65536 if it isn't set, and SYNCHRONOUS what PRAGMA synchronous is:
+# normal.
 fail() {
     echo "run.sh: $1" >&2
     exit 2
@@ -14,15 +16,12 @@ fail() {
 [ $# -eq 0 ] || [ $# -eq 2 ] || fail 'usage: sh examples/replicate/run.sh [DATABASE SQL-FILE]'
 here=$(cd "$(dirname "$0")" && pwd) || exit 2
 top=$here/../..
-out=$here/out
-library=$top/crates/broker_c/out/libbroker_c.a
-[ -e "$library" ] || fail "no $library: (cd crates/broker_c && rt lib) makes it (docs/C.md)"
-heap="$(dirname "$(${RT:-rt} doc)")/c/liblibc_c.a"
-[ -e "$heap" ] || fail "no $heap: the command ${RT:-rt} names no toolchain"
-mkdir -p "$out" || exit 2
+out=${OUT:-$here/out}
+# shellcheck source=../find.sh
+. "$here/../find.sh"
+mkdir -p "$out" && out=$(cd "$out" && pwd) || fail "no folder $out: OUT names another"
 # shellcheck disable=SC2086
-gcc -O2 -I "$top/include" "$here/replicate.c" $CFLAGS "$library" "$heap" -lsqlite3 -o "$out/replicate" ||
-    fail 'replicate.c is not compiled'
+with_libraries broker gcc -O2 "$here/replicate.c" $CFLAGS -lsqlite3 -o "$out/replicate" || fail 'replicate.c is not compiled'
 if [ $# -eq 2 ]; then
     [ -f "$1" ] || fail "no file $1"
     [ -f "$2" ] || fail "no file $2"
