@@ -74,7 +74,8 @@ nothing_left() {
 mkdir -p "$tree/root/release"
 cp "$work"/one/* "$tree/root/release"
 cp examples/broker/short.c "$tree/root/short.c"
-# the same program over the shared library, as pkg-config names it
+[ ! -e keeper ] || cp -R examples/keeper "$tree/root/keeper"
+# the shortest program over the static library and over the shared one, and a replica where there is a keeper
 cat >"$tree/root/builds" <<'END'
 set -eu
 cd "$(mktemp -d)"
@@ -83,6 +84,14 @@ gcc -O2 -Wall -Wextra -Werror /root/short.c $(pkg-config --cflags --libs gubzelk
 ldd shared | grep -q 'libgubzelk\.so\.[0-9]* =>'
 if ldd static | grep gubzelk; then exit 1; fi
 for program in static shared; do [ "$(./$program)" = 'settled up to entry 1' ]; done
+if [ -e /root/keeper ]; then
+    for program in write replica; do gcc -O2 /root/keeper/$program.c $(pkg-config --cflags --libs gubzelk-keeper) -o $program; done
+    { printf 'CREATE TABLE t (a INTEGER PRIMARY KEY, b);\nINSERT INTO t VALUES (1, 2.5);\n'; sleep 5; } | ./write live.db &
+    sleep 2
+    ./replica copy.db live.db until-equal
+    wait
+    [ "$(sqlite3 copy.db 'SELECT * FROM t')" = '1|2.5' ]
+fi
 [ "$(pkg-config --modversion gubzelk gubzelk-broker gubzelk-changeset | uniq)" = "$1" ]
 rm -r "$PWD"
 END
