@@ -16,7 +16,7 @@ for command in debootstrap chroot gcc objdump readelf dpkg-deb python3 git; do
 done
 packages=gcc,libc6-dev,pkg-config,python3,python3-pip,libsqlite3-dev,sqlite3,man-db
 version=$(cat VERSION)
-name=gubzelk-$version-linux-x86_64
+archive=gubzelk-$version-linux-x86_64
 
 # quiet COMMAND..: what the command prints is shown only if it fails
 quiet() {
@@ -78,7 +78,9 @@ cp examples/broker/short.c "$tree/root/short.c"
 # the shortest program over the static library and over the shared one, and a replica where there is a keeper
 cat >"$tree/root/builds" <<'END'
 set -eu
-cd "$(mktemp -d)"
+folder=$(mktemp -d)
+trap 'rm -r "$folder"' EXIT
+cd "$folder"
 gcc -O2 -Wall -Wextra -Werror /root/short.c $(pkg-config --cflags --libs gubzelk-broker) -o static
 gcc -O2 -Wall -Wextra -Werror /root/short.c $(pkg-config --cflags --libs gubzelk) -o shared
 ldd shared | grep -q 'libgubzelk\.so\.[0-9]* =>'
@@ -93,15 +95,15 @@ if [ -e /root/keeper ]; then
     [ "$(sqlite3 copy.db 'SELECT * FROM t')" = '1|2.5' ]
 fi
 [ "$(pkg-config --modversion gubzelk gubzelk-broker gubzelk-changeset | uniq)" = "$1" ]
-rm -r "$PWD"
 END
 ! inside sh -c 'command -v rt || command -v rattle' || fail 'the toolchain is in the fresh Debian' 2
 inside ldconfig
 listed >"$work/before"
 
 # ---- the archive
-says 'the archive is unpacked' lines "mkdir /opt/g && tar -C /opt/g -xf /root/release/$name.tar.gz"
-folder=/opt/g/$name
+says 'the archive is unpacked' lines "mkdir /opt/g
+    tar -C /opt/g -xf /root/release/$archive.tar.gz"
+folder=/opt/g/$archive
 says 'its program answers the first example' lines "cd $folder/share/gubzelk/examples
     $folder/bin/rb_run script <first.script | cmp - first.answers"
 says 'it has the version' lines "[ \"\$($folder/bin/rb_run --version)\" = 'rb_run $version' ]"
@@ -110,18 +112,17 @@ says 'a C program by pkg-config' lines \
 says 'the same after the folder has moved' lines "mv $folder /opt/g/moved
     PKG_CONFIG_PATH=/opt/g/moved/lib/pkgconfig LD_LIBRARY_PATH=/opt/g/moved/lib sh /root/builds $version"
 says 'its example keeps two replicas' lines 'sh /opt/g/moved/share/gubzelk/examples/replicate/run.sh'
-says 'the manual pages have no warning' lines 'for page in $(grep -L "^\.so" /opt/g/moved/share/man/man?/*); do
-    said=$(man --warnings -l "$page" 2>&1 >/dev/null); [ -z "$said" ] || { echo "$page: $said"; exit 1; }; done'
+says 'the manual pages have no warning' lines 'cd /opt/g/moved/share/man
+    [ -s man1/rb_run.1 ] && [ -s man3/broker.3 ] && [ -s man3/changeset.3 ]
+    for page in $(grep -L "^\.so" man?/*); do said=$(man --warnings -l "$page" 2>&1 >/dev/null); [ -z "$said" ] || { echo "$page: $said"; exit 1; }; done'
 says 'bash reads its completion' quiet inside bash -euc '. /opt/g/moved/share/bash-completion/completions/rb_run
     COMP_WORDS=(rb_run drive --sub) COMP_CWORD=2; _rb_run; [ "${COMPREPLY[*]}" = --subscribers ]'
 says 'the archive is installed below /usr/local' lines 'sh /opt/g/moved/install.sh /usr/local && ldconfig'
-says 'the folder is deleted' lines 'mv /opt/g/moved/install.sh /root/release/install.sh
-    mkdir /root/kept && cp -R /opt/g/moved/. /root/kept && mv /root/release/install.sh /root/kept && rm -r /opt/g'
 says 'the installed program answers the first example' lines "cd /usr/local/share/gubzelk/examples
     rb_run script <first.script | cmp - first.answers"
 says 'a C program by pkg-config' lines "sh /root/builds $version"
 says 'man finds a page for each call' lines 'man -w rb_run broker changeset broker_open changeset_check'
-says 'the installed files are removed' lines 'sh /root/kept/install.sh --remove /usr/local && ldconfig && rm -r /root/kept'
+says 'the installed files are removed' lines 'sh /opt/g/moved/install.sh --remove /usr/local && ldconfig && rm -r /opt/g'
 says 'nothing is left' nothing_left
 
 # ---- the package for Debian

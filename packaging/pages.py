@@ -282,10 +282,10 @@ def bash(name, subs):
     numbers = '|'.join(sorted({option for said in subs.values() for option, value, _ in said.longs() if value == 'N'}))
     return f'''# bash completion for {name}. Made by packaging/pages.py.
 _{name}() {{
-    local word=${{COMP_WORDS[COMP_CWORD]}} last=${{COMP_WORDS[COMP_CWORD - 1]}} options
+    local word=${{COMP_WORDS[COMP_CWORD]}} last=${{COMP_WORDS[COMP_CWORD - 1]}} options IFS=$'\\n'
     COMPREPLY=()
     case $last in
-        {files}) mapfile -t COMPREPLY < <(compgen -f -- "$word"); return ;;
+        {files}) compopt -o filenames; COMPREPLY=($(compgen -f -- "$word")); return ;;
         {numbers}) return ;;
     esac
     case ${{COMP_WORDS[1]}} in
@@ -293,7 +293,8 @@ _{name}() {{
         *) options='{" ".join(subs)} --help --version' ;;
     esac
     [ "$COMP_CWORD" -gt 1 ] || options='{" ".join(subs)} --help --version'
-    mapfile -t COMPREPLY < <(compgen -W "$options" -- "$word")
+    IFS=$' \\n'
+    COMPREPLY=($(compgen -W "$options" -- "$word"))
 }}
 complete -F _{name} {name}
 '''
