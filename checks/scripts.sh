@@ -123,6 +123,7 @@ fails 'bench/drive/run.sh, nothing is made' 'no program' sh bench/drive/run.sh
 
 # The program only exits.
 make "$program" "$exits"
+fails 'packaging/release.sh, a program that only exits' 'the first example' sh packaging/release.sh "$work/dist"
 fails 'pages.py, a program that only exits' 'no commands' python3 packaging/pages.py "$work/pages" "$program" include/broker.h
 fails 'run.sh, a program that only exits' 'checks failed' sh checks/run.sh
 fails 'drive.sh, a program that only exits' 'drives are bad' sh checks/drive.sh

@@ -21,6 +21,8 @@ done
 program=crates/rb_run/out/rb_run
 [ -x $program ] || fail "no $program: \`rt run\` in crates/rb_run makes it" 2
 version=$(cat VERSION)
+$program script <examples/first.script | cmp - examples/first.answers || fail "$program doesn't answer the first example"
+[ "$($program --version)" = "rb_run $version" ] || fail "$program has another version than $version"
 : "${SOURCE_DATE_EPOCH:=$(git log -1 --format=%ct)}"
 export SOURCE_DATE_EPOCH LC_ALL=C TZ=UTC
 umask 022
@@ -31,6 +33,15 @@ set -e
 # glibc FILE..: the newest version of glibc whose symbols these files need
 glibc() {
     objdump -T "$@" | sed -n 's/.*GLIBC_\([0-9][0-9.]*\).*/\1/p' | sort -V | tail -n 1
+}
+
+# copied FOLDER TO: what git has of a folder of the repository
+copied() {
+    git ls-files "$1" | while read -r file; do
+        to=$2${file#"$1"}
+        mkdir -p "${to%/*}"
+        cp "$file" "$to"
+    done
 }
 
 # dated FOLDER: each file below it has the release's date, and the same modes wherever it is made
@@ -60,11 +71,8 @@ for page in docs/*.md; do
     case $page in docs/ARCHITECTURE.md | docs/DECISIONS.md | docs/PROVING.md | docs/EMBED.md) ;;
     *) cp "$page" "$tree/share/gubzelk/docs" ;; esac
 done
-git ls-files examples | while read -r file; do
-    mkdir -p "$tree/share/gubzelk/${file%/*}"
-    cp "$file" "$tree/share/gubzelk/$file"
-done
-if [ -e bindings/python/examples ]; then cp -R bindings/python/examples "$tree/share/gubzelk/examples/python"; fi
+copied examples "$tree/share/gubzelk/examples"
+if [ -e bindings/python/examples ]; then copied bindings/python/examples "$tree/share/gubzelk/examples/python"; fi
 
 # ---- the archive
 cp docs/INSTALL.md "$tree/README.md"
@@ -115,11 +123,7 @@ fi
 if [ -e bindings/rust ]; then
     crates=gubzelk-$version-rust
     grep -qx "version = \"$version\"" bindings/rust/Cargo.toml || fail "Cargo.toml has another version than $version"
-    git ls-files bindings/rust | while read -r file; do
-        to=$work/$crates/${file#bindings/rust/}
-        mkdir -p "${to%/*}"
-        cp "$file" "$to"
-    done
+    copied bindings/rust "$work/$crates"
     mkdir -p "$work/$crates/lib" "$work/$crates/.cargo"
     cp "$tree"/lib/libbroker_c.a "$tree"/lib/libchangeset_c.a "$tree"/lib/libgubzelk_heap.a "$work/$crates/lib"
     printf '[env]\nGUBZELK_LIB_DIR = { value = "lib", relative = true }\n' >"$work/$crates/.cargo/config.toml"
