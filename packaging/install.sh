@@ -78,7 +78,7 @@ real=libgubzelk.so.$version soname=libgubzelk.so.${version%%.*}
 $CC -shared -o "$lib/$real" -Wl,-soname,"$soname" -Wl,--version-script=packaging/exports.map -Wl,-s \
     -Wl,--whole-archive $broker $changeset -Wl,--no-whole-archive "$heap" || fail 'no shared object is made' 1
 ln -sf "$real" "$lib/$soname" && ln -sf "$soname" "$lib/libgubzelk.so" || exit 1
-chmod 644 "$include"/*.h "$lib"/lib*.a || exit 1
+chmod 644 "$include"/*.h "$lib"/lib*.a "$lib/$real" || exit 1
 
 # The files for pkg-config name no folder outside of their own, so that all may be moved together.
 for name in $packages; do

@@ -88,7 +88,13 @@ cp -R "$tree/lib" "$deb/$libraries"
 mv "$deb/usr/share/zsh/site-functions" "$deb/usr/share/zsh/vendor-completions"
 sed -i 's|^prefix=.*|prefix=/usr|; s|^libdir=.*|libdir=${prefix}/lib/x86_64-linux-gnu|' "$deb/$libraries"/pkgconfig/*.pc
 gzip -n -9 "$deb"/usr/share/man/man?/*
-gzip -n -9 <CHANGELOG.md >"$deb/usr/share/doc/gubzelk/changelog.gz"
+gzip -n -9 >"$deb/usr/share/doc/gubzelk/changelog.gz" <<END
+gubzelk ($version) unstable; urgency=medium
+
+  * /usr/share/gubzelk/CHANGELOG.md says what is there.
+
+ -- $(sed -n 's/^Maintainer: //p' packaging/control.in)  $(date -R -d "@$SOURCE_DATE_EPOCH")
+END
 # the packages of the libraries that the program and the shared library need
 find "$deb" -name '*.so.*' -type f -o -name rb_run -path '*/bin/*' >"$work/elf"
 # shellcheck disable=SC2046 # each file is a word

@@ -48,7 +48,7 @@ def main():
     with zipfile.ZipFile(pathlib.Path(sys.argv[2]) / f'{name}-{tag}.whl', 'w', zipfile.ZIP_DEFLATED) as out:
         for path, text in sorted(files.items(), key=lambda each: ('.dist-info/' in each[0], each[0])):
             info = zipfile.ZipInfo(path, date)
-            info.external_attr = (0o100755 if path.endswith('.so') else 0o100644) << 16
+            info.external_attr = 0o100644 << 16
             info.compress_type = zipfile.ZIP_DEFLATED
             out.writestr(info, text)
 
