@@ -130,9 +130,14 @@ if [ -e bindings/rust ]; then
     crates=gubzelk-$version-rust
     grep -qx "version = \"$version\"" bindings/rust/Cargo.toml || fail "Cargo.toml has another version than $version"
     copied bindings/rust "$work/$crates"
-    mkdir -p "$work/$crates/lib" "$work/$crates/.cargo"
+    mkdir -p "$work/$crates/lib" "$work/$crates/include" "$work/$crates/.cargo"
     cp "$tree"/lib/libbroker_c.a "$tree"/lib/libchangeset_c.a "$tree"/lib/libgubzelk_heap.a "$work/$crates/lib"
-    printf '[env]\nGUBZELK_LIB_DIR = { value = "lib", relative = true }\n' >"$work/$crates/.cargo/config.toml"
+    cp include/broker.h include/changeset.h "$work/$crates/include"
+    cat >"$work/$crates/.cargo/config.toml" <<END
+[env]
+GUBZELK_LIB_DIR = { value = "lib", relative = true }
+GUBZELK_INCLUDE_DIR = { value = "include", relative = true }
+END
     packed "$crates" "$crates.tar.gz"
 fi
 
