@@ -130,8 +130,9 @@ says 'the package is installed' lines "dpkg -i /root/release/gubzelk_${version}_
 says 'its program answers the first example' lines "cd /usr/share/gubzelk/examples
     rb_run script <first.script | cmp - first.answers"
 says 'a C program by pkg-config' lines "sh /root/builds $version"
-says 'its example keeps two replicas' lines 'OUT=/tmp/replicas sh /usr/share/gubzelk/examples/replicate/run.sh
-    rm -r /tmp/replicas'
+says 'its example keeps two replicas' lines 'export OUT=/tmp/replicas
+    trap "rm -rf $OUT" EXIT
+    sh /usr/share/gubzelk/examples/replicate/run.sh'
 says 'man finds a page for each call' lines 'man -w rb_run broker changeset broker_open changeset_check'
 says 'its files have the sums of the package' lines 'cd / && md5sum --quiet -c /var/lib/dpkg/info/gubzelk.md5sums'
 says 'the package is removed' lines 'dpkg -P gubzelk'
