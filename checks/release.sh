@@ -11,7 +11,7 @@
 . "$(dirname "$0")/begin.sh"
 : "${TREE:=$work/tree.tar}" "${MIRROR:=http://deb.debian.org/debian}"
 [ "$(id -u)" = 0 ] || fail 'only root makes a fresh Debian' 2
-for command in debootstrap chroot gcc objdump readelf dpkg-deb python3 git; do
+for command in debootstrap chroot unshare gcc objdump readelf dpkg-deb python3 git; do
     command -v $command >"$work/path" || fail "no command $command" 2
 done
 packages=gcc,libc6-dev,pkg-config,python3,python3-pip,libsqlite3-dev,sqlite3,man-db
@@ -48,10 +48,10 @@ else
     mkdir "$tree" && tar -C "$tree" --numeric-owner -xf "$TREE" || fail "$TREE is no fresh Debian" 2
 fi
 
-# inside COMMAND..: runs a command in the fresh Debian, with nothing of this machine's environment
+# inside COMMAND..: runs a command in the fresh Debian, with nothing of this machine's environment, and /proc
 inside() {
-    chroot "$tree" env -i PATH=/usr/local/sbin:/usr/local/bin:/usr/sbin:/usr/bin:/sbin:/bin HOME=/root LC_ALL=C.UTF-8 \
-        DEBIAN_FRONTEND=noninteractive "$@"
+    unshare -m sh -c 'mount -t proc proc "$1/proc" && exec chroot "$@"' sh "$tree" \
+        env -i PATH=/usr/local/sbin:/usr/local/bin:/usr/sbin:/usr/bin:/sbin:/bin HOME=/root LC_ALL=C.UTF-8 "$@"
 }
 
 # lines SCRIPT..: runs lines of the shell inside, each of which must pass
