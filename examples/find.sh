@@ -6,22 +6,23 @@
 # with_libraries NAMES COMMAND..: runs a compiler's command, with the words for these libraries after its own. NAMES is
 # `broker`, `changeset` or both.
 with_libraries() {
-    names=$1 archives='' packages='' missing=''
-    shift
-    for name in $names; do
-        archive=crates/${name}_c/out/lib${name}_c.a
-        [ -e "$top/$archive" ] || missing=$archive
-        archives="$archives $archive" packages="$packages gubzelk-$name"
+    lib_archives='' lib_packages='' lib_missing=''
+    for lib_name in $1; do
+        lib_file=crates/${lib_name}_c/out/lib${lib_name}_c.a
+        [ -e "$top/$lib_file" ] || lib_missing=$lib_file
+        lib_archives="$lib_archives $lib_file" lib_packages="$lib_packages gubzelk-$lib_name"
     done
-    if [ -z "$missing" ]; then
-        heap="$(dirname "$(${RT:-rt} doc)")/c/liblibc_c.a"
-        [ -e "$heap" ] || fail "no $heap: the command ${RT:-rt} names no toolchain"
-        for archive in $archives; do set -- "$@" "$top/$archive"; done
-        "$@" "$heap" -I "$top/include"
+    shift
+    if [ -z "$lib_missing" ]; then
+        lib_heap="$(dirname "$(${RT:-rt} doc)")/c/liblibc_c.a"
+        [ -e "$lib_heap" ] || fail "no $lib_heap: the command ${RT:-rt} names no toolchain"
+        for lib_file in $lib_archives; do set -- "$@" "$top/$lib_file"; done
+        "$@" "$lib_heap" -I "$top/include"
     else
-        words=$(PKG_CONFIG_PATH=$top/../../lib/pkgconfig:$PKG_CONFIG_PATH pkg-config --cflags --libs $packages) ||
-            fail "no library: there is no $missing, and pkg-config finds none (docs/INSTALL.md)"
+        # shellcheck disable=SC2086 # each package is a word
+        lib_words=$(PKG_CONFIG_PATH=$top/../../lib/pkgconfig:$PKG_CONFIG_PATH pkg-config --cflags --libs $lib_packages) ||
+            fail "no library: there is no $lib_missing, and pkg-config finds none (docs/INSTALL.md)"
         # shellcheck disable=SC2086 # pkg-config's words are the compiler's
-        "$@" $words
+        "$@" $lib_words
     fi
 }
