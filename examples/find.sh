@@ -1,11 +1,18 @@
 # A function of the examples' scripts: it finds the libraries for C. In a checkout these are what `rt lib` leaves in
-# crates/broker_c and crates/changeset_c. Else they are those of the release that the example lies in, or those that
-# pkg-config finds. The script sets `top`, the folder above examples/, and defines `fail WHY`. RT names the prover's
+# crates/broker_c and crates/changeset_c, and what keeper/build.sh makes. Else they are those of the release that the
+# example lies in, or those that pkg-config finds. The script sets `top`, the folder above examples/, and defines `fail WHY`. RT names the prover's
 # command where it isn't `rt`.
 
 # with_libraries NAMES COMMAND..: runs a compiler's command, with the words for these libraries after its own. NAMES is
-# `broker`, `changeset` or both.
+# `broker`, `changeset` or both, or `keeper` alone.
 with_libraries() {
+    if [ "$1" = keeper ] && [ -e "$top/keeper" ]; then
+        shift
+        lib_words=$(OUT='' sh "$top/keeper/build.sh" --libs) || fail 'no library of keeper'
+        # shellcheck disable=SC2086 # the words are the compiler's
+        "$@" -I "$top/keeper" $lib_words
+        return
+    fi
     lib_archives='' lib_packages='' lib_missing=''
     for lib_name in $1; do
         lib_file=crates/${lib_name}_c/out/lib${lib_name}_c.a
