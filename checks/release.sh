@@ -5,8 +5,8 @@
 # fails.
 #   sh checks/release.sh        needs root, debootstrap (Debian's package of that name) and a mirror of Debian, and what
 #                               packaging/release.sh needs. Without root or debootstrap it says so, with status 2
-# TREE names an archive (.tar) of the fresh Debian, which is made if it isn't there, and stays. RT names the prover's
-# command where it isn't `rt`.
+# TREE names an archive (.tar) of the fresh Debian, which is made if it isn't there, and stays. MIRROR is the mirror where
+# it isn't deb.debian.org. RT names the prover's command where it isn't `rt`.
 # shellcheck disable=SC2016 # what stands between single quotes is for a shell inside
 . "$(dirname "$0")/begin.sh"
 : "${TREE:=$work/tree.tar}" "${MIRROR:=http://deb.debian.org/debian}"
@@ -87,7 +87,9 @@ ldd shared | grep -q 'libgubzelk\.so\.[0-9]* =>'
 if ldd static | grep gubzelk; then exit 1; fi
 for program in static shared; do [ "$(./$program)" = 'settled up to entry 1' ]; done
 if [ -e /root/keeper ]; then
-    for program in write replica; do gcc -O2 /root/keeper/$program.c $(pkg-config --cflags --libs gubzelk-keeper) -o $program; done
+    for program in write replica; do
+        gcc -O2 /root/keeper/$program.c $(pkg-config --cflags --libs gubzelk-keeper) -o $program
+    done
     { printf 'CREATE TABLE t (a INTEGER PRIMARY KEY, b);\nINSERT INTO t VALUES (1, 2.5);\n'; sleep 5; } | ./write live.db &
     sleep 2
     ./replica copy.db live.db until-equal
@@ -114,7 +116,10 @@ says 'the same after the folder has moved' lines "mv $folder /opt/g/moved
 says 'its example keeps two replicas' lines 'sh /opt/g/moved/share/gubzelk/examples/replicate/run.sh'
 says 'the manual pages have no warning' lines 'cd /opt/g/moved/share/man
     [ -s man1/rb_run.1 ] && [ -s man3/broker.3 ] && [ -s man3/changeset.3 ]
-    for page in $(grep -L "^\.so" man?/*); do said=$(man --warnings -l "$page" 2>&1 >/dev/null); [ -z "$said" ] || { echo "$page: $said"; exit 1; }; done'
+    for page in $(grep -L "^\.so" man?/*); do
+        said=$(man --warnings -l "$page" 2>&1 >/dev/null)
+        [ -z "$said" ] || { echo "$page: $said"; exit 1; }
+    done'
 says 'bash reads its completion' quiet inside bash -euc '. /opt/g/moved/share/bash-completion/completions/rb_run
     COMP_WORDS=(rb_run drive --sub) COMP_CWORD=2; _rb_run; [ "${COMPREPLY[*]}" = --subscribers ]'
 says 'the archive is installed below /usr/local' lines 'sh /opt/g/moved/install.sh /usr/local && ldconfig'

@@ -1,7 +1,7 @@
 # A function of the examples' scripts: it finds the libraries for C. In a checkout these are what `rt lib` leaves in
 # crates/broker_c and crates/changeset_c, and what keeper/build.sh makes. Else they are those of the release that the
-# example lies in, or those that pkg-config finds. The script sets `top`, the folder above examples/, and defines `fail WHY`. RT names the prover's
-# command where it isn't `rt`.
+# example lies in, or those that pkg-config finds. The script sets `top`, the folder above examples/, and defines
+# `fail WHY`. RT names the prover's command where it isn't `rt`.
 
 # with_libraries NAMES COMMAND..: runs a compiler's command, with the words for these libraries after its own. NAMES is
 # `broker`, `changeset` or both, or `keeper` alone.

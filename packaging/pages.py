@@ -17,7 +17,9 @@ import time
 TOP = pathlib.Path(__file__).resolve().parent.parent
 VERSION = (TOP / 'VERSION').read_text().strip()
 DATE = time.strftime('%Y-%m-%d', time.gmtime(int(os.environ.get('SOURCE_DATE_EPOCH', '0'))))
-NAMES = re.compile(r'`([^`]+)`|(?<![\w/.])((?:broker|changeset|gz|sqlite3)[a-z0-9]*_[a-z0-9_]+|(?:BROKER|CHANGESET|GZ)_[A-Z_]+)\b')
+# what stands between backquotes, and names of calls, types and constants
+NAMES = re.compile(r'`([^`]+)`|(?<![\w/.])((?:broker|changeset|gz|sqlite3)[a-z0-9]*_[a-z0-9_]+|'
+                   r'(?:BROKER|CHANGESET|GZ)_[A-Z_]+)\b')
 
 
 # ---- roff
