@@ -95,7 +95,7 @@ if [ -n "$installed" ]; then
     unset GUBZELK_LIB_DIR
     export PKG_CONFIG_PATH="$lib/pkgconfig"
     says 'the archives by pkg-config' rebuilds
-    mkdir "$work/shared" && cp "$lib/libgubzelk.so" "$work/shared" || exit 2
+    mkdir "$work/shared" && cp -P "$lib"/libgubzelk.so* "$work/shared" || exit 2
     export GUBZELK_LIB_DIR="$work/shared" LD_LIBRARY_PATH="$work/shared"
     says 'the shared object' rebuilds
 fi

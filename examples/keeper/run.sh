@@ -2,7 +2,8 @@
 # Keeps two replicas of a database, kills the writing program and a replica (kill -9), starts both again, and compares the
 # three files, examples/keeper/out/live.db, one.db and two.db. The status is 0 if they are equal.
 #   sh examples/keeper/run.sh
-# It needs sqlite3 beside what keeper/build.sh needs, and takes the same variables.
+# It needs sqlite3 beside what keeper/build.sh needs, and takes the same variables; in a release, gcc, pkg-config and
+# libsqlite3-dev. OUT names another folder, a new one.
 fail() {
     echo "run.sh: $1" >&2
     for process in $writer $one $two; do kill -9 "$process" 2>/dev/null; done
@@ -11,12 +12,14 @@ fail() {
 
 writer='' one='' two=''
 here=$(cd "$(dirname "$0")" && pwd) || exit 2
-out=$here/out
-rm -rf "$out" && mkdir -p "$out" || exit 2
-libs=$(sh "$here/../../keeper/build.sh" --libs) || exit 2
+top=$here/../.. out=${OUT:-$here/out}
+# shellcheck source=../find.sh
+. "$here/../find.sh"
+[ -z "$OUT" ] || [ ! -e "$OUT" ] || fail "$OUT is there already" 2
+rm -rf "$out" && mkdir -p "$out" && out=$(cd "$out" && pwd) || fail "no folder $out: OUT names another" 2
 for program in write replica; do
     # shellcheck disable=SC2086
-    ${CC:-gcc} -std=c11 -D_GNU_SOURCE -O2 -I "$here/../../keeper" "$here/$program.c" $CFLAGS $libs -o "$out/$program" ||
+    with_libraries keeper ${CC:-gcc} -std=c11 -D_GNU_SOURCE -O2 "$here/$program.c" $CFLAGS -o "$out/$program" ||
         fail "$program.c is not compiled" 2
 done
 cd "$out" || exit 2
