@@ -33,10 +33,9 @@ wants() {
 wants 'rt run' rb_run/out/rb_run
 wants 'rt lib' changeset_c/out/libchangeset_c.a
 wants 'rt lib' broker_c/out/libbroker_c.a
-wants 'rt test' rb_threads/out/rb_threads_tests
 if $long; then
     wants 'rt run' replica_stops/out/replica_stops
-    for crate in cs_tests rb_tests; do wants 'rt test' $crate/out/${crate}_tests; done
+    for crate in cs_tests rb_tests rb_threads; do wants 'rt test' $crate/out/${crate}_tests; done
 fi
 [ -z "$missing" ] || fail "missing: ${missing#, }. Give each command in the crate's folder" 2
 
