@@ -81,9 +81,9 @@ fails 'valgrind.sh, no program' 'no program' sh checks/valgrind.sh
 fails 'leaks.sh, no program' 'no crates' sh checks/leaks.sh
 fails 'stops.sh, no program' 'no program' sh checks/stops.sh 2
 fails 'rust.sh, no library' 'nothing is installed' sh checks/rust.sh
-mkdir "$work/few"
-for tool in dirname mktemp rm; do ln -s "$(command -v $tool)" "$work/few"; done
-fails 'rust.sh, no cargo' 'no command cargo' env PATH="$work/few" /bin/sh checks/rust.sh
+mkdir "$work/tools"
+for tool in dirname mktemp rm; do ln -s "$(command -v $tool)" "$work/tools"; done
+fails 'rust.sh, no cargo' 'no command cargo' env PATH="$work/tools" /bin/sh checks/rust.sh
 fails 'header.sh, no library' 'no crates' sh checks/header.sh
 fails 'library.sh, no library' 'no crates' sh checks/library.sh
 fails 'install.sh, no library' 'no crates' sh packaging/install.sh "$work/prefix"
