@@ -39,6 +39,12 @@ static void run(gz_source *s, sqlite3 *db, char kind, const char *sql) {
     else printf("ok\n");
 }
 
+static void run_outside(sqlite3 *db, const char *sql) {
+    puts(sqlite3_exec(db, sql, NULL, NULL, NULL) ? sqlite3_errmsg(db) : "ok");
+    /* what is refused in the middle leaves its BEGIN open */
+    if (!sqlite3_get_autocommit(db)) sqlite3_exec(db, "ROLLBACK", NULL, NULL, NULL);
+}
+
 int main(int count, char **words) {
     struct gz_options options = {.set_wal = 1};
     char *line = NULL;
@@ -58,7 +64,7 @@ int main(int count, char **words) {
         line[len - 1] = 0;
         if (*line == 's') say_status(s);
         else if (*line == 'l') gz_source_left(s, 0, &left) ? puts("none") : printf("%s %s %s\n", left.table, left.key, left.why);
-        else if (*line == 'o') puts(sqlite3_exec(db, line + 2, NULL, NULL, NULL) ? sqlite3_errmsg(db) : "ok");
+        else if (*line == 'o') run_outside(db, line + 2);
         else run(s, db, *line, line + 2);
         fflush(stdout);
     }
