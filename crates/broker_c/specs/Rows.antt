@@ -68,6 +68,8 @@ HasTable (Some tables) table = table < length tables.schema
 abbrev pub tables_in : State → ℕ → Option TableState
 tables_in world s = option_map (λ end. end.tables) (slice_get world.endpoints s)
 
+-- What `broker_rows` tells: the length of the text of all rows of a subscription, and the text if
+-- there was room; or -30 if there is no subscription; or -2 for one that is there.
 abbrev pub ReadsRows : ℤ → ℕ → Handle → Handle → List ℕ → List ℕ → Type 0
 ReadsRows result s before after was is =
     TellsOf result before after
@@ -75,6 +77,8 @@ ReadsRows result s before after was is =
     (all_rows_found (tables_in world s)) was is)
     (is ≡ was)
 
+-- The same of `broker_row` and the row with a key. It is -30 without the subscription, -46 without
+-- the table and -47 without the row. -2 comes only if the table is there.
 abbrev pub ReadsRow : ℤ → ℕ → ℕ → List ℕ → Handle → Handle → List ℕ → List ℕ → Type 0
 ReadsRow result s table key before after was is =
     TellsOf result before after

@@ -108,6 +108,7 @@ IsCursorOf (negsuc n) (Some cursor) was is = ⊥
 abbrev pub cursor_in : State → ℕ → Option ℕ
 cursor_in world s = option_map (λ end. end.cursor) (slice_get world.endpoints s)
 
+-- What `broker_cursor` tells: 0 and a subscription's cursor, or -30 if there is none.
 abbrev pub ReadsCursor : ℤ → ℕ → Handle → Handle → ℕ → ℕ → Type 0
 ReadsCursor result s before after was is =
     TellsOf result before after (λ z world. IsCursorOf z (cursor_in world s) was is) (is ≡ was)
@@ -139,10 +140,12 @@ ReadsStatus result s before after was is =
     TellsOf result before after (λ z world. IsStatusOf z (subscription_status world s) was is)
     (is ≡ was)
 
+-- What `broker_front` tells: 0 and the last number placed.
 abbrev pub ReadsFront : ℤ → Handle → Handle → ℕ → ℕ → Type 0
 ReadsFront result before after was is =
     TellsOf result before after (λ z world. (z ≡ pos 0) × (is ≡ length world.sequence)) (is ≡ was)
 
+-- What `broker_left` tells: 0 and how many changesets are sent and not placed.
 abbrev pub ReadsLeft : ℤ → Handle → Handle → ℕ → ℕ → Type 0
 ReadsLeft result before after was is =
     TellsOf result before after (λ z world. (z ≡ pos 0) × (is ≡ how_many_wait world)) (is ≡ was)

@@ -25,6 +25,7 @@ IsValue (Text bytes) = length bytes ≤ most_bytes
 IsValue (Blob bytes) = length bytes ≤ most_bytes
 IsValue Null = Unit {0}
 
+-- a field is undefined, or a value
 abbrev pub IsField : Field → Type 0
 IsField Undefined = Unit {0}
 IsField (Is value) = IsValue value

@@ -6,6 +6,7 @@ use Rattle.cs_model.specs.contracts.shape.Shape as shape
 use Rattle.cs_model.specs.declared.change.Change.{Change}
 use Rattle.cs_model.specs.declared.shape.Shape.{Shape}
 
+-- A section: a table's shape and changes of that table, in order. It may have no changes.
 pub record Section : Type 0 where
   pub shape : Shape
   pub changes : List Change

@@ -14,5 +14,6 @@ header_text shape = 84 ∷ (varint (length shape.flags) ++ (shape.flags ++ (shap
 abbrev pub section_text : Section → List ℕ
 section_text section = header_text section.shape ++ changes_bytes section.changes
 
+-- sections: their texts, one after another
 abbrev pub sections_text : List Section → List ℕ
 sections_text sections = flat_map section_text sections

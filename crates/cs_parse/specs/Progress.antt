@@ -24,7 +24,7 @@ pub record Progress : Type 0 where
   pub offset : ℕ
   pub fault : Option ParseFault
 
--- before any byte
+-- the progress before any byte
 abbrev pub nothing : Progress
 nothing = record { sections = []; pending = []; offset = 0; fault = None }
 

@@ -252,7 +252,7 @@ abbrev pub overlong_answer : ℕ → Result (List Section × List ℕ) ParseRefu
 overlong_answer len (Ok read) = Err (fault_of len TooLong Short)
 overlong_answer len (Err refusal) = Err (fault_of len TooLong refusal)
 
--- what reading a text gives
+-- what reading a text gives: its sections, or its fault
 unfoldable pub answer_of : List ℕ → Result (List Section) ParseFault
 answer_of text =
     if nat_lt most_bytes (length text) then overlong_answer most_bytes

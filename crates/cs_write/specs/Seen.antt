@@ -7,5 +7,6 @@ use Rattle.cs_model.specs.PackedChanges.{changes_bytes}
 use Rattle.cs_model.specs.Section.{Section}
 use Rattle.cs_write.specs.Canon.{Group}
 
+-- groups of borrowed sections, as groups of sections
 abbrev pub seen : List (Shape × Vec Section) → List Group
 seen entries = map (λ entry. (entry.0, entry.1.items)) entries

@@ -78,7 +78,7 @@ module _ {T : Type 0} where
     pub distinct : IsDistinct nat_eq (lane_keys lane)
     pub valued : (key : ℕ) → StandsIn key lane → IsSome (slice_index_or slots key None)
 
-  -- *AreLanes*: what holds of all lanes.
+  -- No key stands twice in a lane, and each key that stands in one has a value.
   pub record AreLanes (lanes : Lanes T) : Type 0 where
     pub first : IsLane lanes.slots lanes.first
     pub second : IsLane lanes.slots lanes.second

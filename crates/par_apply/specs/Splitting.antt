@@ -20,7 +20,8 @@ IsFirstOfShards shard parts conflict = (key : RowKey) × (parts (shard key) ≡ 
     × ((i : ℕ) (other : Conflict) → parts i ≡ Err other
     → (other ≡ conflict) ⊎ (conflict.position < other.position))
 
--- one answer, from those of all shards
+-- The splitting law. If no shard's changes conflict, each key has in the rows what it has in its
+-- shard's rows. Else the conflict is the one at the least position of all shards' conflicts.
 abbrev pub SplitsInto : (RowKey → ℕ) → (ℕ → Result Rows Conflict) → Result Rows Conflict → Type 0
 SplitsInto shard parts (Ok rows) =
     (each : ℕ → Rows) × ((i : ℕ) → parts i ≡ Ok (each i)) × AreShardRows shard each rows

@@ -31,5 +31,6 @@ pub record BodiesIn (publishers : List Sender) (waiting : List Item) (pulled : O
   pub hand : IfSome pulled IsBody
   pub sequence : AreChangesets placed
 
+-- everything in a world is a changeset, and what was fed is bytes
 abbrev pub HasChangesets : World → Type 0
 HasChangesets w = BodiesIn w.senders w.intake w.hand w.sequence

@@ -27,7 +27,7 @@ status_at front (Some q) (Some end) = Some (status_by front q end)
 status_at front (Some q) None = None
 status_at front None end = None
 
--- of the subscription with this number, if there is one
+-- How far the subscription with this number has come, if there is one.
 abbrev pub subscription_status : State → ℕ → Option SubscriptionStatus
 subscription_status w s =
     status_at w.desk.front (slice_get w.desk.subscriptions s) (slice_get w.endpoints s)

@@ -207,5 +207,6 @@ pub record Continues (subs : List Subscription) (s cursor : ℕ) : Type 0 where
   pub from : sub.floor ≤ cursor
   pub to : cursor ≤ sub.offered
 
+-- the same of a picture's subscriptions
 abbrev pub MayContinue : DeliveryPicture → ℕ → ℕ → Type 0
 MayContinue p = Continues p.subscriptions

@@ -47,6 +47,7 @@ full_subscribed_picture old start spans = record old {
   ready = old.ready ++ named (length old.subscriptions) spans;
 }
 
+-- `subscribe` on a full picture
 abbrev pub full_subscribe : FullPicture → ℕ → Result (ℕ × ℕ) DeskRefusal × FullPicture
 full_subscribe old start =
     if nat_lt old.front start then full_refused_call old (refusal.StartAhead old.front)
@@ -110,6 +111,7 @@ full_delivered_from old s link cursor now (Some q) =
     else if not (full_has_room old.limits.window q) then full_refused_call old refusal.WindowFull
     else full_delivered_span old s q cursor now (first_ready (unsettled_spans q.spans))
 
+-- `take` on a full picture
 abbrev pub full_take : FullPicture → ℕ → ℕ → ℕ → ℕ → Result Delivery DeskRefusal × FullPicture
 full_take old s link cursor now =
     full_delivered_from old s link cursor now (slice_get old.subscriptions s)
@@ -141,6 +143,7 @@ full_delivered_any_from old now None = full_refused_call old (refusal.Empty old.
 full_delivered_any_from old now (Some at) =
     full_delivered_any_of old at.0 at.1 now (slice_get old.subscriptions at.0)
 
+-- `take_any` on a full picture
 abbrev pub full_take_any : FullPicture → ℕ → Result Delivery DeskRefusal × FullPicture
 full_take_any old now = full_delivered_any_from old now (find (full_has_window_room old) old.ready)
 
@@ -174,6 +177,8 @@ full_on_delivery old link number call (Some q) =
     if not (link == q.link) then full_refused_call old refusal.StaleLink
     else call q (out_as number (unsettled_spans q.spans))
 
+-- `ack` on a full picture: the span becomes a settled one; then each settled span that comes first
+-- is removed, and its last number is the floor
 abbrev pub full_ack : FullPicture → ℕ → ℕ → ℕ → ℕ → Result ℕ DeskRefusal × FullPicture
 full_ack old s link number cursor =
     full_on_delivery old link number (λ q. full_acked_span old s q cursor)
@@ -193,6 +198,7 @@ abbrev pub full_nacked_span : FullPicture → ℕ → FullSubscription → Optio
 full_nacked_span old s q None = full_refused_call old refusal.NotInFlight
 full_nacked_span old s q (Some span) = (Ok tt, full_nacked_picture old s q span)
 
+-- `nack` on a full picture
 abbrev pub full_nack : FullPicture → ℕ → ℕ → ℕ → Result ⊤ DeskRefusal × FullPicture
 full_nack old s link number =
     full_on_delivery old link number (full_nacked_span old s) (slice_get old.subscriptions s)
@@ -211,6 +217,7 @@ abbrev pub full_opened_span : FullPicture → ℕ → FullSubscription → Optio
 full_opened_span old s q None = full_refused_call old refusal.NotInFlight
 full_opened_span old s q (Some span) = (Ok (span_length span), full_opened_picture old s q span)
 
+-- `nack_opened` on a full picture
 abbrev pub full_nack_opened : FullPicture → ℕ → ℕ → ℕ → Result ℕ DeskRefusal × FullPicture
 full_nack_opened old s link number =
     full_on_delivery old link number (full_opened_span old s) (slice_get old.subscriptions s)
@@ -237,6 +244,7 @@ full_expired_picture old clock = record old {
   in_flight = filter (λ at. not (full_expires_of old clock at)) old.in_flight;
 }
 
+-- `expire` on a full picture
 abbrev pub full_expire : FullPicture → ℕ → ℕ × FullPicture
 full_expire old now = (
   length (filter (full_expires_of old (max old.clock now)) old.in_flight),
@@ -267,6 +275,7 @@ full_reconnected_by old s cursor (Some q) =
           (cut_spans old.limits.batch (suc cursor) old.front),
     )
 
+-- `reconnect` on a full picture
 abbrev pub full_reconnect : FullPicture → ℕ → ℕ → Result ℕ DeskRefusal × FullPicture
 full_reconnect old s cursor = full_reconnected_by old s cursor (slice_get old.subscriptions s)
 
@@ -287,6 +296,7 @@ full_unsubscribed_by old s link (Some q) =
     else if q.closed then full_refused_call old refusal.Closed
     else (Ok tt, full_unsubscribed_picture old s q)
 
+-- `unsubscribe` on a full picture
 abbrev pub full_unsubscribe : FullPicture → ℕ → ℕ → Result ⊤ DeskRefusal × FullPicture
 full_unsubscribe old s link = full_unsubscribed_by old s link (slice_get old.subscriptions s)
 
@@ -297,6 +307,7 @@ full_next_place old (Some last) = Err refusal.Closed
 full_next_place old None =
     if nat_lt old.front old.limits.capacity then Ok (suc old.front) else Err refusal.SequenceFull
 
+-- `prepare` on a full picture
 abbrev pub full_prepare : FullPicture → Result ℕ DeskRefusal
 full_prepare old = full_next_place old old.closing
 
@@ -321,6 +332,7 @@ abbrev pub full_last_number : FullPicture → Option ℕ → ℕ
 full_last_number old None = old.front
 full_last_number old (Some last) = last
 
+-- `close` on a full picture
 abbrev pub full_close : FullPicture → ℕ × FullPicture
 full_close old = (
   full_last_number old old.closing,
@@ -350,5 +362,6 @@ abbrev pub full_replayed : FullPicture → List Step → FullPicture
 full_replayed x [] = x
 full_replayed x (step ∷ steps) = full_replayed (full_after_step x step) steps
 
+-- the full picture that a list of steps leads to from an empty one
 abbrev pub full_replay : Limits → List Step → FullPicture
 full_replay limits steps = full_replayed (empty_full_picture limits) steps

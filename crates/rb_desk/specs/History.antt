@@ -63,7 +63,8 @@ pub record WasReconnectedPast (limits : Limits) (steps : List Step) (s n : ℕ) 
   pub is_ok : (reconnect (replay limits before) s cursor).0 ≡ Ok link
   pub reaches : n ≤ cursor
 
--- a number is settled under a link: a reconnect went past it, or it was acknowledged under the link
+-- a number is settled under a link: a reconnect went to it or past it, or it was acknowledged under
+-- the link
 abbrev pub WasSettled : Limits → List Step → ℕ → ℕ → ℕ → Type 0
 WasSettled limits steps s link n = WasReconnectedPast limits steps s n
     ⊎ WasAckedUnder limits steps s link n

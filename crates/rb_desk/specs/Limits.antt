@@ -20,7 +20,7 @@ pub record Limits : Type 0 where
   pub intake : ℕ
   pub appliers : ℕ
 
--- these six, in the order of `Config::new`
+-- the limits that these six numbers are, in the order of `Config::new`
 abbrev pub six_limits : ℕ → ℕ → ℕ → ℕ → ℕ → ℕ → Limits
 six_limits batch window timeout capacity intake appliers = record {
   batch = batch;

@@ -24,6 +24,7 @@ pub record Outline : Type 0 where
   pub next_delivery : ℕ
   pub members : List Member
 
+-- the outline of a picture
 abbrev pub outline_of : Picture → Outline
 outline_of p = record {
   front = p.front;

@@ -39,6 +39,7 @@ abbrev pub replayed : Picture → List Step → Picture
 replayed p [] = p
 replayed p (step ∷ steps) = replayed (after_step p step) steps
 
+-- the picture that a list of steps leads to from an empty one
 abbrev pub replay : Limits → List Step → Picture
 replay limits steps = replayed (empty_picture limits) steps
 

@@ -48,7 +48,7 @@ abbrev pub up_to_stop : Answering → List AnsweredLine → List AnsweredLine
 up_to_stop how [] = []
 up_to_stop how (a ∷ more) = if stops_after how a then a ∷ [] else a ∷ up_to_stop how more
 
--- the lines that are answered so
+-- the lines that are answered: those up to the first after which the script stops, with that one
 abbrev pub lines_reached : Answering → Limits → Stage → List (List ℕ) → List (List ℕ)
 lines_reached how config stage [] = []
 lines_reached how config stage (line ∷ lines) =

@@ -62,7 +62,10 @@ IsStoppedAt how config line r0 r w0 w =
     × Appends w0 w (script_output how config lines)) r0 r
 
 -- How a script ends, by its result. The reader had r0 left and has r; the writer held w0 and holds
--- w.
+-- w. Ok: the whole input is read, and all its lines are answered. `Read`: the same of the whole
+-- lines so far. `Endless`: more was read than the limit, and the lines that end within it are
+-- answered. `Write` and `Memory`: a prefix of the answers is written. `Refused`: this line is the
+-- first that stops the script, and the answers up to its own are written.
 abbrev pub ScriptEnds : {A : Type 0} → Answering → Limits → Result A ScriptFault → Option (List ℕ)
     → Option (List ℕ) → Option (List ℕ) → Option (List ℕ) → Type 0
 ScriptEnds how config (Ok done) r0 r w0 w = IsAnswered how config r0 r w0 w

@@ -13,6 +13,7 @@ pub record ScriptPlace : Type 0 where
 abbrev pub place_at : Stage → List ℕ → ScriptPlace
 place_at stage line = record { stage = stage; line = line }
 
+-- a script's place before any byte: no table is declared, and no line has begun
 abbrev pub first_place : ScriptPlace
 first_place = place_at (Tables []) []
 

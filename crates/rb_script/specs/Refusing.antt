@@ -45,7 +45,7 @@ form_refused config stage (Some (form.Rows s)) =
     not (is_some (slice_get (world_of config stage).endpoints s))
 form_refused config stage (Some form.Left) = false
 
--- a line; an empty one isn't refused
+-- whether a line is refused or faulty; an empty one isn't
 abbrev pub line_refused : Limits → Stage → List ℕ → Bool
 line_refused config stage [] = false
 line_refused config stage (byte ∷ bytes) =

@@ -17,9 +17,11 @@ pub record SequencerState : Type 0 where
   pub placed : List CellToken
   pub hand : Option Item
 
+-- the items of the entries that were placed
 abbrev pub items_placed : List CellToken → List Item
 items_placed tokens = map (λ t. t.entry.item) tokens
 
+-- the item in hand as a list: itself, or none
 abbrev pub in_hand : Option Item → List Item
 in_hand None = []
 in_hand (Some item) = item ∷ []

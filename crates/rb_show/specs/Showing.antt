@@ -30,7 +30,10 @@ IsShownInPart form r0 r w0 w =
     (input : List ℕ) × Consumes r0 r input × AppendsFront w0 w (rows_shown form input).0
 
 -- How `show` ends, by its result. The reader had r0 left and has r; the writer held w0 and holds w.
--- Nothing is written before the reader is at its end.
+-- Ok: the input is read to its end, and all that it shows is written. `Row`: the same up to the
+-- first row that can't be read. `Read`: nothing is written. `Write`: the input is read to its end,
+-- and a prefix of what it shows is written. `Memory`: a prefix of what the input so far shows is
+-- written.
 abbrev pub ShowEnds : {A : Type 0} → RowForm → Result A ShowFault → Option (List ℕ)
     → Option (List ℕ) → Option (List ℕ) → Option (List ℕ) → Type 0
 ShowEnds form (Ok done) r0 r w0 w = IsShownWhole form None r0 r w0 w

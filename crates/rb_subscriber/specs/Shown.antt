@@ -6,6 +6,7 @@ use Rattle.rb_sequence.specs.Entry.{Entry}
 use Rattle.rb_subscriber.specs.declared.shown.Shown.{Shown}
 use Rattle.rb_subscriber.specs.declared.shown.Shown.TheVariants.{Held, Seen}
 
+-- the entries that tokens show, in order
 abbrev pub entries_told : List CellToken → List Entry
 entries_told tokens = map (λ token. token.entry) tokens
 

@@ -50,7 +50,7 @@ own_endpoint s = record {
   tables = s.tables;
 }
 
--- one that has accepted nothing
+-- a subscription that has accepted nothing
 abbrev pub new_subscription : ℕ → ℕ → ℕ → tables.TableState → SubscriptionState
 new_subscription sub start link tables = record {
   sub = sub;

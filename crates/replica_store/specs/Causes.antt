@@ -33,7 +33,7 @@ HasStepLimit s = IsSome s.step_limit
 abbrev pub HasStoreCause : Type 0 → State → State → Type 0
 HasStoreCause Own old new = DiskFailed old new ⊎ (HasStepLimit old ⊎ Own)
 
--- a call that answers `Store` has a cause
+-- A call that answers `Store` has a cause, where the disk returned what was written.
 abbrev pub StoreHasCause : {T : Type 0} → Result T ReplicaError → Type 0 → State → State → Type 0
 StoreHasCause result Own old new =
     HasCleanDisk new → result ≡ Err Store → HasStoreCause Own old new

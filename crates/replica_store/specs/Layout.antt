@@ -80,6 +80,7 @@ pub record HasNoRules (table : Table) : Type 0 where
   pub stamps : table.stamps ≡ record { places = []; terms = []; formats = [] }
   pub uncounted : table.is_counted ≡ false
 
+-- no table, no index and no view
 abbrev pub empty_schema : Schema
 empty_schema = record { tables = []; indexes = []; views = [] }
 

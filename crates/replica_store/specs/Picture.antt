@@ -29,6 +29,7 @@ Stores db key body = (id : ℤ) × Has (db 0) (row_record id key body)
 abbrev pub HasCursor : Trees → ℕ → Type 0
 HasCursor db place = db 2 ≡ mark_record place ∷ []
 
+-- the same bodies are stored under the same keys
 abbrev pub AreSameRows : StoredRows → StoredRows → Type 0
 AreSameRows a b = (key : RowKey) (body : List ℕ) → a key body ↔ b key body
 
