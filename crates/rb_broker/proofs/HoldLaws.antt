@@ -1,7 +1,7 @@
 -- What one call of the desk leaves of what the lock says of the desk: its limits, its closing number, how many
 -- subscriptions it has, and how many steps of their own its journal has.
 use Rattle.std.proofs.Common.{◌≡◌, ◌+◌, ◌++◌, ℕ, Bool, true, false, cond, length, Option, Some, None, Result, Ok, Err}
-use Rattle.std.proofs.Common.{refl, sym, ap, ◌∙◌, subst, arith, option_map, IfSome}
+use Rattle.std.proofs.Common.{List, [], ◌∷◌, refl, sym, ap, ◌∙◌, subst, arith, option_map, IfSome}
 use Rattle.std.proofs.lemmas.List.{append-nil}
 use Rattle.rb_desk.specs.declared.refusal.DeskError.{DeskError}
 use Rattle.rb_desk.specs.declared.refusal.DeskError.TheVariants.{Refused, Memory}
@@ -10,15 +10,19 @@ use Rattle.rb_desk.specs.declared.step.Step.{Step}
 use Rattle.rb_desk.specs.declared.refusal.DeskRefusal.TheVariants.{Drained, JournalFull}
 use Rattle.rb_desk.specs.declared.step.Step.TheVariants.{Close}
 use Rattle.rb_desk.specs.Calls.{take}
-use Rattle.rb_desk.specs.Journaled.{JournalAnswers, JournaledPicture, answer_after, closing_steps, counted_steps, is_full}
+use Rattle.rb_desk.specs.Journaled.{IsReplay, JournalAnswers, JournaledPicture, answer_after, closing_steps, counted_steps}
+use Rattle.rb_desk.specs.Journaled.{is_full}
 use Rattle.rb_desk.specs.Journaled.{is_own, journaled}
 use Rattle.rb_desk.specs.Limits.{Limits}
 use Rattle.rb_desk.specs.Picture.{Picture}
 use Rattle.rb_desk.specs.Steps.{KeepsFrame}
+use Rattle.rb_history.specs.declared.chronicle.Chronicle.{Chronicle}
 use Rattle.rb_sequence.specs.Cells.{Cells, IsLastToken, LastToken}
+use Rattle.rb_subscriber.specs.Owner.{desk_after}
 use Rattle.rb_subscriber.specs.Register.{RegisterState}
 use Rattle.rb_broker.specs.Holding.{IsAtEnd}
 use Rattle.rb_broker.specs.Placing.{ShowsClosing}
+use Rattle.rb_broker.proofs.StepLaws.{one_step_on}
 
 -- what stays of a desk, and how many own steps are added
 pub record LockKeeps (old new : JournaledPicture) (more : ℕ) : Type 0 where
@@ -82,9 +86,10 @@ holds_on limits cells old new more closing before after keeps counted h =
       made = ap (λ (r : RegisterState). r.made) counted ∙ h.made ∙ sym keeps.frame.count;
     }
 
--- the same with what the calls leave alone: the ghost fields of *Locked*
-abbrev pub LockHolds : Limits → Cells → JournaledPicture → Cells → Option LastToken → ℕ → RegisterState → Type 0
-LockHolds own cells desk filler closing parts register = record {
+-- the same with what the calls leave alone, and with the history: the ghost fields of *Locked*
+abbrev pub LockHolds : Limits → Cells → JournaledPicture → Cells → Option LastToken → ℕ → RegisterState → ℕ × ℕ
+    → Chronicle Step → Type 0
+LockHolds own cells desk filler closing parts register name history = record {
   limits : desk.picture.limits ≡ own;
   fits : own.capacity ≡ cells.capacity;
   fills : filler ≡ cells;
@@ -92,22 +97,52 @@ LockHolds own cells desk filler closing parts register = record {
   all : parts ≡ 1024;
   total : register.total ≡ counted_steps is_own desk.steps;
   made : register.made ≡ length desk.picture.subscriptions;
+  name : history.name ≡ name;
+  replays : desk ≡ desk_after own history.log;
 }
+
+-- the history as the owner has seen it, and with one step more
+pub record GrowsBy (number : ℕ) (step : Step) (old seen grown : Chronicle Step) : Type 0 where
+  pub same : seen ≡ old
+  pub named : grown.name ≡ seen.name
+  pub log : grown.log ≡ seen.log ++ (number, step) ∷ []
+
+pub named_still : {name : ℕ × ℕ} {number : ℕ} {step : Step} {old seen grown : Chronicle Step}
+    → GrowsBy number step old seen grown → old.name ≡ name → grown.name ≡ name
+named_still grows is = grows.named ∙ ap (λ (h : Chronicle Step). h.name) grows.same ∙ is
+
+pub logged : {number : ℕ} {step : Step} {old seen grown : Chronicle Step}
+    → GrowsBy number step old seen grown → grown.log ≡ old.log ++ (number, step) ∷ []
+logged {number = number} {step = step} grows =
+    grows.log ∙ ap (λ (h : Chronicle Step). h.log ++ (number, step) ∷ []) grows.same
 
 -- what the lock says of the desk goes on after a subscription's own step, which the register counts
 pub own_step_holds : {limits : Limits} {cells filler : Cells} {new : JournaledPicture} {next : Picture} {parts : ℕ}
-    {before after : RegisterState} (old : JournaledPicture) (step : Step) (closing : Option LastToken) → CountsOwn
+    {before after : RegisterState} {name : ℕ × ℕ} {number : ℕ} {history seen grown : Chronicle Step}
+    (old : JournaledPicture) (step : Step) (closing : Option LastToken) → CountsOwn
     → KeepsFrame old.picture next → new ≡ journaled old step next
     → after ≡ record before { total = before.total + cond (is_own step) 1 0 }
     → old.picture.limits ≡ limits → limits.capacity ≡ cells.capacity → filler ≡ cells
     → ShowsClosing cells old.picture.closing closing → parts ≡ 1024 → before.total ≡ counted_steps is_own old.steps
-    → before.made ≡ length old.picture.subscriptions → LockHolds limits cells new filler closing parts after
-own_step_holds {limits} {cells} {filler} {new} {next} {parts} {before} {after} old step closing counts frame is counted
-    under fits fills closes all total made =
+    → before.made ≡ length old.picture.subscriptions → history.name ≡ name → old ≡ desk_after limits history.log
+    → IsReplay new → GrowsBy number step history seen grown
+    → LockHolds limits cells new filler closing parts after name grown
+own_step_holds {limits} {cells} {filler} {new} {next} {parts} {before} {after} {name} {number} {history} {seen} {grown}
+    old step closing counts frame is counted under fits fills closes all total made named was replays grows =
     let keeps = step_keeps old new step next counts frame is in
     let k = holds_on limits cells old new _ closing before after keeps counted
     (record { limits = under; closes = closes; total = total; made = made }) in
-    record { limits = k.limits; fits = fits; fills = fills; closes = k.closes; all = all; total = k.total; made = k.made }
+    record {
+      limits = k.limits;
+      fits = fits;
+      fills = fills;
+      closes = k.closes;
+      all = all;
+      total = k.total;
+      made = k.made;
+      name = named_still grows named;
+      replays = one_step_on limits old new step next history.log grown.log number was is frame.limits replays (logged grows);
+    }
 
 -- so it does where the desk adds none
 pub holds_still : (limits : Limits) (cells : Cells) (old new : JournaledPicture) (more : ℕ) (closing : Option LastToken)
@@ -121,25 +156,32 @@ holds_still limits cells old new more closing register keeps none h =
       made = h.made ∙ sym keeps.frame.count;
     }
 
--- a call that isn't a subscription's own adds none
-pub none_more : {A : Type 0} (result : Result A DeskError) (step : Step) → is_own step ≡ false → own_steps result step ≡ 0
-none_more (Ok answer) step not_own = ap (λ b. cond b 1 0) not_own
-none_more (Err error) step not_own = refl
-
--- so it does after a call that makes no such step, whatever it returns: the register counts none
-pub other_call_holds : {A : Type 0} {limits : Limits} {cells filler : Cells} {next : Picture} {parts : ℕ}
-    {register : RegisterState} (old new : JournaledPicture) (step : Step) (closing : Option LastToken) (result : Result A DeskError)
-    (answer : Result A DeskRefusal) → CountsOwn → KeepsFrame old.picture next
-    → JournalAnswers result (answer, next) step old new → is_own step ≡ false
-    → old.picture.limits ≡ limits → limits.capacity ≡ cells.capacity → filler ≡ cells
+-- so it does after a step that isn't a subscription's own: the register counts none
+pub other_step_holds : {limits : Limits} {cells filler : Cells} {new : JournaledPicture} {next : Picture} {parts : ℕ}
+    {register : RegisterState} {name : ℕ × ℕ} {number : ℕ} {history seen grown : Chronicle Step} (old : JournaledPicture)
+    (step : Step) (closing : Option LastToken) → CountsOwn → KeepsFrame old.picture next
+    → new ≡ journaled old step next → is_own step ≡ false → old.picture.limits ≡ limits
+    → limits.capacity ≡ cells.capacity → filler ≡ cells
     → ShowsClosing cells old.picture.closing closing → parts ≡ 1024 → register.total ≡ counted_steps is_own old.steps
-    → register.made ≡ length old.picture.subscriptions → LockHolds limits cells new filler closing parts register
-other_call_holds {A} {limits} {cells} {filler} {next} {parts} {register} old new step closing result answer counts frame
-    answers not_own under fits fills closes all total made =
-    let keeps = call_keeps result (answer, next) step old new counts frame answers in
-    let k = holds_still limits cells old new (own_steps result step) closing register keeps (none_more result step not_own)
+    → register.made ≡ length old.picture.subscriptions → history.name ≡ name → old ≡ desk_after limits history.log
+    → IsReplay new → GrowsBy number step history seen grown
+    → LockHolds limits cells new filler closing parts register name grown
+other_step_holds {limits} {cells} {filler} {new} {next} {parts} {register} {name} {number} {history} {seen} {grown}
+    old step closing counts frame is not_own under fits fills closes all total made named was replays grows =
+    let keeps = step_keeps old new step next counts frame is in
+    let k = holds_still limits cells old new _ closing register keeps (ap (λ b. cond b 1 0) not_own)
     (record { limits = under; closes = closes; total = total; made = made }) in
-    record { limits = k.limits; fits = fits; fills = fills; closes = k.closes; all = all; total = k.total; made = k.made }
+    record {
+      limits = k.limits;
+      fits = fits;
+      fills = fills;
+      closes = k.closes;
+      all = all;
+      total = k.total;
+      made = k.made;
+      name = named_still grows named;
+      replays = one_step_on limits old new step next history.log grown.log number was is frame.limits replays (logged grows);
+    }
 
 -- an Ok that comes after so many steps is the call's own
 pub answered : {A : Type 0} (steps : ℕ) (r : Result A DeskRefusal) (a : A) → answer_after steps r ≡ Ok a → r ≡ Ok a

@@ -2,4 +2,5 @@ pub mod HoldLaws
 pub mod PlaceLaws
 pub mod ResumeLaws
 pub mod SchemaLaws
+pub mod StepLaws
 pub mod WhyLaws

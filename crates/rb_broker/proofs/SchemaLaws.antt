@@ -1,5 +1,6 @@
 -- Lists of shapes that compare as equal are equal, and no others; what `subscribe` refuses.
-use Rattle.std.proofs.Common.{◌≡◌, ◌∙◌, ℕ, Bool, true, false, ◌&&◌, List, Result, Ok, Err, IfErr, ap, refl, sym}
+use Rattle.std.proofs.Common.{◌≡◌, ◌∙◌, ℕ, Bool, true, false, ◌&&◌, List, [], ◌++◌, Result, Ok, Err}
+use Rattle.std.proofs.Common.{IfErr, IfOk, ap, refl, sym}
 use Rattle.std.specs.Bool.{Decides}
 use Rattle.std.specs.Cmp.{unsigned_Decides}
 use Rattle.std.proofs.lemmas.Slice.Eq.{slice_eq-Decides}
@@ -8,12 +9,17 @@ use Rattle.cs_model.specs.declared.shape.Shape.{Shape}
 use Rattle.cs_apply.specs.State.{TableState}
 use Rattle.rb_desk.specs.Journaled.{JournaledPicture}
 use Rattle.rb_desk.specs.Limits.{Limits}
+use Rattle.rb_desk.specs.Calls.{subscribe}
+use Rattle.rb_desk.specs.declared.step.Step.{Step}
+use Rattle.rb_desk.specs.declared.step.Step.TheVariants.{Subscribe}
+use Rattle.rb_subscriber.specs.Owner.{OthersSince, Owner, desk_after, has_seen}
 use Rattle.rb_subscriber.specs.Subscription.{SubscriptionState}
-use Rattle.rb_broker.specs.Holding.{IsDeskOf, IsSchemaWhy, MakesSubscription, RefusesAsDesk, RefusesTables}
+use Rattle.rb_broker.specs.Holding.{IsSchemaWhy, MakesSubscription, RefusesAsDesk, RefusesTables, own_step}
 use Rattle.rb_broker.specs.Holding.{RefusesAfterDesk, SubscribesAfterDesk}
 use Rattle.rb_broker.specs.declared.refusal.RefusedSubscription.{RefusedSubscription}
 use Rattle.rb_broker.specs.declared.refusal.SubscribeError.{SubscribeError}
 use Rattle.rb_broker.specs.declared.refusal.SubscribeError.TheVariants.{Desk, OtherSchema}
+use Rattle.rb_broker.proofs.StepLaws.{returns}
 
 bytes_decide : (xs ys : List ℕ) → Decides (same_bytes xs ys) (xs ≡ ys)
 bytes_decide xs ys = slice_eq-Decides unsigned_Decides xs ys (same_bytes xs ys) refl
@@ -58,13 +64,24 @@ tables_come_back (Err refused) base own start old new same h =
     (h.0, why_is base own refused.why start old new same h.1)
 
 -- what the hold returns is what its desk returns
-why_after : (limits : Limits) (why : SubscribeError) (start : ℕ) (old new : JournaledPicture) → IsDeskOf limits old
-    → RefusesAsDesk why start old new → RefusesAfterDesk limits why start
-why_after limits OtherSchema start old new held h = tt
-why_after limits (Desk error) start old new held h = (old, new, held, h)
+why_after : (limits : Limits) (why : SubscribeError) (start : ℕ) (me mine : Owner) (log grown : List (ℕ × Step))
+    (old new : JournaledPicture) → OthersSince me log
+    → (old ≡ desk_after limits log) × (new ≡ desk_after limits grown) → grown ≡ log ++ [] → mine ≡ has_seen me grown
+    → RefusesAsDesk why start old new → RefusesAfterDesk limits why start me mine
+why_after limits OtherSchema start me mine log grown old new since held grows seen h = absurd h
+why_after limits (Desk error) start me mine log grown old new since held grows seen h =
+    returns limits (Err error) (λ p. subscribe p start) (Subscribe start) me mine log grown old new since held grows seen h
 
 pub subscribes_after : (limits : Limits) (result : Result SubscriptionState RefusedSubscription) (base : TableState)
-    (start : ℕ) (old new : JournaledPicture) → IsDeskOf limits old → MakesSubscription result base start old new
-    → SubscribesAfterDesk limits result start
-subscribes_after limits (Ok s) base start old new held h = (old, new, held, h.1)
-subscribes_after limits (Err refused) base start old new held h = why_after limits refused.why start old new held h.1
+    (start : ℕ) (me mine : Owner) (log grown : List (ℕ × Step)) (old new : JournaledPicture) → OthersSince me log
+    → (old ≡ desk_after limits log) × (new ≡ desk_after limits grown)
+    → grown ≡ log ++ own_step result me.number (Subscribe start) → mine ≡ has_seen me grown
+    → IfOk result (λ s. s.owner.seen ≡ mine.seen) → MakesSubscription result base start old new
+    → SubscribesAfterDesk limits result start me mine
+subscribes_after limits (Ok s) base start me mine log grown old new since held grows seen own h = (
+  own,
+  returns limits (Ok (s.sub, s.link)) (λ p. subscribe p start) (Subscribe start) me mine log grown old new since held grows
+      seen h.1,
+)
+subscribes_after limits (Err refused) base start me mine log grown old new since held grows seen own h =
+    why_after limits refused.why start me mine log grown old new since held grows seen h.1

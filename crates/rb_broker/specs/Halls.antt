@@ -6,7 +6,8 @@ use Rattle.atomic_table.specs.Seated.{TableId}
 use Rattle.rb_sequence.specs.Cells.{Cells}
 
 -- A broker that was opened: its limits, its tables, the cells of its sequence, the queue of its
--- intake, how many items may wait in it, and the name of the ledger of its subscriptions' steps.
+-- intake, how many items may wait in it, the name of the ledger of its subscriptions' steps, and
+-- the name of its history.
 pub record OpenedParts : Type 0 where
   pub limits : Limits
   pub schema : List Shape
@@ -14,6 +15,7 @@ pub record OpenedParts : Type 0 where
   pub queue : TableId
   pub room : ℕ
   pub ledger : ℕ
+  pub history : ℕ × ℕ
 
 -- no broker's
 abbrev pub no_limits : Limits

@@ -1,9 +1,10 @@
 -- What one hold of the broker's lock does for a subscription.
-use Rattle.std.specs.Prelude.{◌≡◌, ◌+◌, ℕ, length, true, List, Option, Some, Result, Ok, Err}
+use Rattle.std.specs.Prelude.{◌≡◌, ◌+◌, ◌++◌, ◌∷◌, [], ℕ, length, true, List, Option, Some}
+use Rattle.std.specs.Prelude.{Result, Ok, Err}
 use Rattle.cs_apply.specs.State as tables
 use Rattle.cs_model.specs.declared.shape.Shape.{Shape}
 use Rattle.rb_desk.specs.Calls.{subscribe}
-use Rattle.rb_desk.specs.Journaled.{IsReplay, JournalAnswers, JournaledPicture}
+use Rattle.rb_desk.specs.Journaled.{JournalAnswers, JournaledPicture}
 use Rattle.rb_desk.specs.Limits.{Limits}
 use Rattle.rb_desk.specs.Picture.{Picture}
 use Rattle.rb_desk.specs.declared.delivery.Delivery.{Delivery}
@@ -13,7 +14,9 @@ use Rattle.rb_desk.specs.declared.refusal.DeskRefusal.{DeskRefusal}
 use Rattle.rb_desk.specs.declared.refusal.DeskRefusal.TheVariants as desk
 use Rattle.rb_desk.specs.declared.step.Step.{Step}
 use Rattle.rb_desk.specs.declared.step.Step.TheVariants.{Subscribe}
+use Rattle.rb_history.specs.Kept.{count_under}
 use Rattle.rb_sequence.specs.Cells.{Cells, IsLastToken}
+use Rattle.rb_subscriber.specs.Owner.{Owner, desk_after, has_seen}
 use Rattle.rb_subscriber.specs.Register.{AuditorState, all_steps}
 use Rattle.rb_subscriber.specs.Subscription.{SubscriptionState, new_subscription}
 use Rattle.rb_broker.specs.declared.refusal.RefusedSubscription.{RefusedSubscription}
@@ -35,16 +38,35 @@ ended_step s = record (counted_step s) { closed = true }
 
 -- ---- what a call shows of the desk, which others change between two calls
 
--- a desk with these limits, whose picture is what its journal's steps lead to
-abbrev pub IsDeskOf : Limits → JournaledPicture → Type 0
-IsDeskOf limits desk = (desk.picture.limits ≡ limits) × IsReplay desk
+-- the desk is what the history leads to, before a hold of the lock and after it
+abbrev pub AreReplays : Limits → JournaledPicture → List (ℕ × Step) → JournaledPicture
+    → List (ℕ × Step) → Type 0
+AreReplays limits old log new grown = (old ≡ desk_after limits log)
+    × (new ≡ desk_after limits grown)
 
--- After the steps of some journal a desk with these limits returns this to a call that makes this
--- step.
+-- the step of a call under its owner's number; none if the call is refused
+abbrev pub own_step : {A E : Type 0} → Result A E → ℕ → Step → List (ℕ × Step)
+own_step (Ok answer) number step = (number, step) ∷ []
+own_step (Err why) number step = []
+
+-- Others made these steps since the owner looked last. The desk then returned this to a call that
+-- makes this step. The history went on by the owner's one step, or by none if the call was refused,
+-- and the owner has seen all of it.
+pub record ReturnsAfter {A : Type 0} (limits : Limits) (result : Result A DeskError)
+    (call : Picture → Result A DeskRefusal × Picture) (step : Step) (old new : Owner)
+    (others : List (ℕ × Step)) : Type 0 where
+  pub apart : count_under old.number others ≡ 0
+  pub answers : JournalAnswers result
+      (call (desk_after limits (old.seen ++ others)).picture) step
+      (desk_after limits (old.seen ++ others)) (desk_after limits new.seen)
+  pub seen : new ≡ has_seen old ((old.seen ++ others) ++ own_step result old.number step)
+
+-- What a call through the lock returns is what the desk returns after the history that its owner had
+-- seen and the steps that others made since. It makes no other step than its own.
 abbrev pub DeskReturns : {A : Type 0} → Limits → Result A DeskError
-    → (Picture → Result A DeskRefusal × Picture) → Step → Type 0
-DeskReturns limits result call step = (old : JournaledPicture) × (new : JournaledPicture)
-    × IsDeskOf limits old × JournalAnswers result (call old.picture) step old new
+    → (Picture → Result A DeskRefusal × Picture) → Step → Owner → Owner → Type 0
+DeskReturns limits result call step old new = (others : List (ℕ × Step))
+    × ReturnsAfter limits result call step old new others
 
 -- ---- subscribing
 
@@ -57,21 +79,25 @@ RefusesAsDesk (subscribing.Desk error) start old new =
 
 abbrev pub MakesSubscription : Result SubscriptionState RefusedSubscription → tables.TableState → ℕ
     → JournaledPicture → JournaledPicture → Type 0
-MakesSubscription (Ok s) base start old new = (s ≡ new_subscription s.sub start s.link base)
+MakesSubscription (Ok s) base start old new =
+    (s ≡ new_subscription s.sub start s.link base s.owner)
     × JournalAnswers (Ok (s.sub, s.link)) (subscribe old.picture start) (Subscribe start) old new
 MakesSubscription (Err refused) base start old new = (refused.tables ≡ base)
     × RefusesAsDesk refused.why start old new
 
--- The number and the link of a new subscription, or the error, are those that the desk returns.
-abbrev pub RefusesAfterDesk : Limits → SubscribeError → ℕ → Type 0
-RefusesAfterDesk limits subscribing.OtherSchema start = Unit {0}
-RefusesAfterDesk limits (subscribing.Desk error) start =
-    DeskReturns {A = ℕ × ℕ} limits (Err error) (λ p. subscribe p start) (Subscribe start)
+-- The number and the link of a new subscription, or the error, are those that the desk returns to
+-- the keeper. The new subscription has seen what the keeper has, and made no step.
+abbrev pub RefusesAfterDesk : Limits → SubscribeError → ℕ → Owner → Owner → Type 0
+RefusesAfterDesk limits subscribing.OtherSchema start old new = new ≡ old
+RefusesAfterDesk limits (subscribing.Desk error) start old new =
+    DeskReturns {A = ℕ × ℕ} limits (Err error) (λ p. subscribe p start) (Subscribe start) old new
 
-abbrev pub SubscribesAfterDesk : Limits → Result SubscriptionState RefusedSubscription → ℕ → Type 0
-SubscribesAfterDesk limits (Ok s) start =
-    DeskReturns limits (Ok (s.sub, s.link)) (λ p. subscribe p start) (Subscribe start)
-SubscribesAfterDesk limits (Err refused) start = RefusesAfterDesk limits refused.why start
+abbrev pub SubscribesAfterDesk : Limits → Result SubscriptionState RefusedSubscription → ℕ → Owner
+    → Owner → Type 0
+SubscribesAfterDesk limits (Ok s) start old new = (s.owner.seen ≡ new.seen)
+    × DeskReturns limits (Ok (s.sub, s.link)) (λ p. subscribe p start) (Subscribe start) old new
+SubscribesAfterDesk limits (Err refused) start old new =
+    RefusesAfterDesk limits refused.why start old new
 
 -- Tables of another schema are refused first of all, and only they. The tables come back.
 abbrev pub IsSchemaWhy : List Shape → List Shape → SubscribeError → Type 0

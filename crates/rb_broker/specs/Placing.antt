@@ -1,19 +1,22 @@
 -- What one hold of the broker's lock does that places an item, and one that closes.
-use Rattle.std.specs.Prelude.{◌≡◌, ◌++◌, ◌∷◌, [], ℕ, List, length, Option, Some, None, IfSome}
+use Rattle.std.specs.Prelude.{◌≡◌, ◌++◌, ◌∷◌, [], ℕ, List, length, map, Option, Some, None}
+use Rattle.std.specs.Prelude.{IfSome}
 use Rattle.std.specs.Prelude.{Result, Ok, Err}
 use Rattle.std.specs.Option.{option_map}
 use Rattle.rb_desk.specs.declared.refusal.DeskRefusal.{DeskRefusal}
 use Rattle.rb_desk.specs.declared.refusal.DeskRefusal.TheVariants as desk
+use Rattle.rb_desk.specs.declared.step.Step.{Step}
 use Rattle.rb_desk.specs.declared.step.Step.TheVariants.{Place}
 use Rattle.rb_desk.specs.Calls.{prepare, place, close}
 use Rattle.rb_desk.specs.Journaled.{JournaledPicture, answer_after, closing_steps, journaled}
 use Rattle.rb_desk.specs.Limits.{Limits}
+use Rattle.rb_history.specs.Kept.{count_under}
 use Rattle.rb_intake.specs.Passes.{SequencerKnows}
 use Rattle.rb_sequence.specs.Cells.{Cells, CellToken, IsLastToken, IsOccupantOf, IsTokenOf}
 use Rattle.rb_sequence.specs.Cells.{LastToken}
 use Rattle.rb_sequence.specs.Entry.{Entry}
 use Rattle.rb_sequence.specs.Item.{Item}
-use Rattle.rb_broker.specs.Holding.{IsDeskOf}
+use Rattle.rb_subscriber.specs.Owner.{OthersSince, Owner, desk_after, has_seen}
 use Rattle.rb_broker.specs.declared.refusal.Occupied.{Occupied}
 use Rattle.rb_broker.specs.declared.refusal.Occupied.TheVariants.{Next, Set}
 use Rattle.rb_broker.specs.declared.refusal.PlaceRefusal.{PlaceRefusal}
@@ -82,17 +85,24 @@ PlacesEntry (Ok told) cells entry old new = ShowsEntry cells told entry
 PlacesEntry (Err refused) cells entry old new = (refused.item ≡ entry.item)
     × RefusesPlace cells entry.number old refused.why × (new ≡ old)
 
--- After the steps of some journal a desk with these limits refuses to place this number so. Out of
--- memory says nothing of the desk.
-abbrev pub DeskRefuses : Limits → Cells → ℕ → PlaceRefusal → Type 0
-DeskRefuses limits cells number placing.Memory = Unit {0}
-DeskRefuses limits cells number why =
-    (desk : JournaledPicture) × IsDeskOf limits desk × RefusesPlace cells number desk why
+-- The desk refuses to place this number so, after the history that the owner had seen and the steps
+-- that others made since. The owner makes no step. Where memory runs out, the desk isn't asked.
+abbrev pub DeskRefuses : Limits → Cells → ℕ → PlaceRefusal → Owner → Owner → Type 0
+DeskRefuses limits cells number placing.Memory old new = new ≡ old
+DeskRefuses limits cells number why old new = OthersSince old new.seen
+    × RefusesPlace cells number (desk_after limits new.seen) why × (new.number ≡ old.number)
 
--- After the steps of some journal a desk with these limits places this number.
-abbrev pub DeskPlaces : Limits → ℕ → Type 0
-DeskPlaces limits number = (desk : JournaledPicture) × IsDeskOf limits desk
-    × (number_to_place desk ≡ Ok number)
+-- The desk places this number, after the history that the owner had seen and the steps that others
+-- made since. That is the owner's one step.
+pub record PlacesAfter (limits : Limits) (number : ℕ) (old new : Owner) (others : List (ℕ × Step))
+    : Type 0 where
+  pub apart : count_under old.number others ≡ 0
+  pub next : number_to_place (desk_after limits (old.seen ++ others)) ≡ Ok number
+  pub seen : new ≡ has_seen old ((old.seen ++ others) ++ (old.number, Place) ∷ [])
+
+abbrev pub DeskPlaces : Limits → ℕ → Owner → Owner → Type 0
+DeskPlaces limits number old new = (others : List (ℕ × Step))
+    × PlacesAfter limits number old new others
 
 -- What the hold returns and leaves that closes. The desk is closed, and the token shows its closing
 -- number in the closing cell; or, if that cell is set and the desk isn't closed, the desk is as
@@ -105,8 +115,22 @@ ClosesBoth (Some told) cells old new = IsLastToken cells told
     × (new.steps ≡ old.steps ++ closing_steps old.picture.closing)
 ClosesBoth None cells old new = (old.picture.closing ≡ None) × (new ≡ old)
 
--- After the steps of some journal a desk with these limits is closed, and this is its last number:
--- its front, or the closing number that it has.
-abbrev pub DeskCloses : Limits → LastToken → Type 0
-DeskCloses limits told = (desk : JournaledPicture) × IsDeskOf limits desk
-    × (told.last ≡ (close desk.picture).0)
+-- the step of a close under its owner's number: a second close is none, nor is one that fails
+abbrev pub closing_step : Option LastToken → ℕ → Option ℕ → List (ℕ × Step)
+closing_step (Some told) number closing = map (λ step. (number, step)) (closing_steps closing)
+closing_step None number closing = []
+
+-- The desk closes after the history that the owner had seen and the steps that others made since, and
+-- this is its last number: its front, or the closing number that it has. The close is the owner's
+-- one step; a second one is none.
+pub record ClosesAfter (limits : Limits) (told : LastToken) (old new : Owner)
+    (others : List (ℕ × Step)) : Type 0 where
+  pub apart : count_under old.number others ≡ 0
+  pub last : told.last ≡ (close (desk_after limits (old.seen ++ others)).picture).0
+  pub seen : new ≡ has_seen old ((old.seen ++ others) ++ closing_step (Some told) old.number
+      (desk_after limits (old.seen ++ others)).picture.closing)
+
+abbrev pub DeskCloses : Limits → Option LastToken → Owner → Owner → Type 0
+DeskCloses limits (Some told) old new = (others : List (ℕ × Step))
+    × ClosesAfter limits told old new others
+DeskCloses limits None old new = OthersSince old new.seen × (new.number ≡ old.number)

@@ -6,7 +6,8 @@ use Rattle.rb_desk.specs.Journaled.{JournalAnswers, JournaledPicture}
 use Rattle.rb_desk.specs.Limits.{Limits}
 use Rattle.rb_desk.specs.declared.step.Step.TheVariants.{Reconnect}
 use Rattle.rb_subscriber.specs.Lost.{FitsLost, gone_on}
-use Rattle.rb_subscriber.specs.Subscription.{SubscriptionState}
+use Rattle.rb_subscriber.specs.Owner.{Owner}
+use Rattle.rb_subscriber.specs.Subscription.{SubscriptionState, seen_by}
 use Rattle.rb_broker.specs.Holding.{DeskReturns, counted_step}
 use Rattle.rb_broker.specs.declared.refusal.RefusedResume.{RefusedResume}
 use Rattle.rb_broker.specs.declared.refusal.ResumeError.{ResumeError}
@@ -17,20 +18,21 @@ abbrev pub IsStateWhy : SubscriptionState → TableState → ℕ → ResumeError
 IsStateWhy lost tables cursor resuming.OtherState = FitsLost lost tables cursor → ⊥
 IsStateWhy lost tables cursor (resuming.Desk error) = FitsLost lost tables cursor
 
--- what was to be resumed comes back, with the reason
+-- what was to be resumed comes back, with the reason; it may have seen more of the history
 abbrev pub ResumesNothing : {L : Type 0} → SubscriptionState → TableState → ℕ → RefusedResume L
     → Type 0
-ResumesNothing lost tables cursor refused = (refused.lost ≡ lost) × (refused.tables ≡ tables)
-    × IsStateWhy lost tables cursor refused.why
+ResumesNothing lost tables cursor refused = (refused.lost ≡ seen_by lost refused.lost.owner)
+    × (refused.tables ≡ tables) × IsStateWhy lost tables cursor refused.why
 
 -- The desk is asked for a reconnection of this subscription at this cursor. The new link, or the
--- error, is the one that it returns after the steps of some journal.
-abbrev pub ReconnectReturns : Limits → ℕ → ℕ → Result ℕ ResumeError → Type 0
-ReconnectReturns limits sub cursor (Ok link) =
-    DeskReturns limits (Ok link) (λ p. reconnect p sub cursor) (Reconnect sub cursor)
-ReconnectReturns limits sub cursor (Err resuming.OtherState) = Unit {0}
-ReconnectReturns limits sub cursor (Err (resuming.Desk error)) =
+-- error, is the one that it returns (*DeskReturns*). Where the state is another, it isn't asked.
+abbrev pub ReconnectReturns : Limits → ℕ → ℕ → Result ℕ ResumeError → Owner → Owner → Type 0
+ReconnectReturns limits sub cursor (Ok link) old new =
+    DeskReturns limits (Ok link) (λ p. reconnect p sub cursor) (Reconnect sub cursor) old new
+ReconnectReturns limits sub cursor (Err resuming.OtherState) old new = new ≡ old
+ReconnectReturns limits sub cursor (Err (resuming.Desk error)) old new =
     DeskReturns {A = ℕ} limits (Err error) (λ p. reconnect p sub cursor) (Reconnect sub cursor)
+    old new
 
 -- ---- one hold of the lock
 
@@ -45,8 +47,9 @@ RefusesReconnect (resuming.Desk error) sub cursor old new =
 abbrev pub ResumesAsDesk : {L : Type 0} → Result SubscriptionState (RefusedResume L)
     → SubscriptionState → TableState → ℕ → JournaledPicture → JournaledPicture → Type 0
 ResumesAsDesk (Ok s) lost tables cursor old new =
-    (s ≡ counted_step (gone_on lost tables cursor s.link))
+    (s ≡ counted_step (seen_by (gone_on lost tables cursor s.link) s.owner))
     × JournalAnswers (Ok s.link) (reconnect old.picture lost.sub cursor)
     (Reconnect lost.sub cursor) old new
-ResumesAsDesk (Err refused) lost tables cursor old new = (refused.lost ≡ lost)
+ResumesAsDesk (Err refused) lost tables cursor old new =
+    (refused.lost ≡ seen_by lost refused.lost.owner)
     × (refused.tables ≡ tables) × RefusesReconnect refused.why lost.sub cursor old new

@@ -16,7 +16,7 @@ use cs_model::Schema;
 use rb_desk::Config;
 use rb_intake::{Intake, NothingWaits, SequencerPass};
 use rb_sequence::{Entry, Item, Preparer, Sequence, Told, ToldLast};
-use rb_subscriber::{Auditor, Register};
+use rb_subscriber::{Auditor, Register, Stake};
 use std::alloc::Global;
 use std::marker::PhantomData;
 use std::sync::{Arc, Mutex, Wait};
@@ -36,8 +36,8 @@ pub struct Broker<L: Hall> {
     ghost queue: { intake.queue ≡ L.queue },
 }
 
-/// A broker that was started, with what its owners are made of. Each of the three goes to whoever
-/// is to be the only one of its kind.
+/// A broker that was started, with what its owners are made of. There is one of
+/// each.
 #[derive(Drop)]
 pub struct Started<L: Hall> {
     pub broker: Broker<L>,
@@ -47,6 +47,10 @@ pub struct Started<L: Hall> {
     pub publishers: PublisherMaker<L>,
     /// Audits its subscriptions.
     pub auditor: Auditor<L>,
+    /// The part of its sequencer in the history of its steps.
+    pub placer: Stake<L>,
+    /// The part of whoever subscribes, takes for any subscription, expires and closes.
+    pub keeper: Stake<L>,
 }
 
 impl<L: Hall> Broker<L> {
@@ -55,13 +59,18 @@ impl<L: Hall> Broker<L> {
         requires sequence { (opened.limits ≡ L.limits) × (opened.cells ≡ L.cells) }
         requires queue { opened.queue ≡ L.queue }
         requires ledger { (opened.ledger ≡ L.name) × (L.parts ≡ 1024) × (L.all ≡ 1024) }
+        requires history { opened.history ≡ L.history }
         ensures sequencer { result.sequencer
             ≡ record { queue = L.queue; pulled = []; ended = [] } }
         ensures publishers { result.publishers ≡ 0 }
         ensures auditor { result.auditor ≡ record { sum = 0; heard = 0 } }
+        ensures seen { (result.placer.seen ≡ []) × (result.keeper.seen ≡ []) }
         ensures schema { arc_value result.broker.schema ≡ opened.schema }
     {
         let (register, auditor) = Register::open(opened.blank);
+        let mut history = opened.history;
+        let placer = Stake::new(&mut history, opened.placer);
+        let keeper = Stake::new(&mut history, opened.keeper);
         let broker = Broker {
             config: opened.config,
             schema: opened.schema,
@@ -73,6 +82,7 @@ impl<L: Hall> Broker<L> {
                 filler: opened.filler,
                 register,
                 closing: None,
+                history,
             }),
         };
         let publishers = PublisherMaker {
@@ -84,6 +94,8 @@ impl<L: Hall> Broker<L> {
             sequencer: opened.sequencer,
             publishers,
             auditor,
+            placer,
+            keeper,
         }
     }
 
@@ -135,6 +147,7 @@ impl<L: Hall> Broker<L> {
         rt: &R,
         alloc: Global,
         _pass: &mut SequencerPass,
+        placer: &mut Stake<L>,
         item: Item,
         number: u64,
     ) -> Result<Told, RefusedItem>
@@ -143,11 +156,12 @@ impl<L: Hall> Broker<L> {
         ensures pass { _pass.new ≡ _pass.old }
         ensures ok { IfOk result (λ told. ShowsEntry L.cells told
             (record { number = number; item = item })) }
-        ensures placed { IfOk result (λ told. DeskPlaces L.limits told.number) }
+        ensures placed { IfOk result (λ told.
+            DeskPlaces L.limits told.number placer.old placer.new) }
         ensures err { IfErr result (λ refused. (refused.item ≡ item)
             × ShowsWhy L.cells number refused.why) }
         ensures desk { IfErr result (λ refused.
-            DeskRefuses L.limits L.cells number refused.why) }
+            DeskRefuses L.limits L.cells number refused.why placer.old placer.new) }
     {
         let Ok(form) = item.form(alloc) else {
             let why = PlaceRefusal::Memory;
@@ -155,13 +169,13 @@ impl<L: Hall> Broker<L> {
         };
         let entry = Entry::new(alloc, number, item, form);
         if number > self.sequence.capacity() {
-            let locked = self.locked.lock(rt);
-            return Err(refused(locked.refuses(number), entry));
+            let mut locked = self.locked.lock(rt);
+            return Err(refused(locked.refuses(placer, number), entry));
         }
         match self.preparer.ready(alloc, entry) {
             Ok(ready) => {
                 let mut locked = self.locked.lock(rt);
-                locked.place(ready)
+                locked.place(placer, ready)
             }
             Err(failed) => Err(refused(PlaceRefusal::Memory, failed.value)),
         }
@@ -173,11 +187,11 @@ impl<L: Hall> Broker<L> {
     ///
     /// Returns `None` if the closing cell is set though the sequence isn't closed. Nothing else
     /// sets it, so this does not happen.
-    pub fn close<R: Wait>(&self, rt: &R) -> Option<ToldLast>
+    pub fn close<R: Wait>(&self, rt: &R, keeper: &mut Stake<L>) -> Option<ToldLast>
         ensures closed { IfSome result (λ told. IsLastToken L.cells told) }
-        ensures desk { IfSome result (DeskCloses L.limits) }
+        ensures desk { DeskCloses L.limits result keeper.old keeper.new }
     {
         let mut locked = self.locked.lock(rt);
-        locked.close()
+        locked.close(keeper)
     }
 }

@@ -7,7 +7,7 @@ ghost use Rattle.rb_desk.specs.Calls.{ack, expire, nack, nack_opened, reconnect,
 ghost use Rattle.rb_desk.specs.Calls.{unsubscribe};
 ghost use Rattle.rb_desk.specs.declared.step.Step.TheVariants as step;
 ghost use Rattle.rb_subscriber.specs.Lost.{FitsLost, gone_on};
-ghost use Rattle.rb_subscriber.specs.Subscription.{cursor_of, new_subscription};
+ghost use Rattle.rb_subscriber.specs.Subscription.{cursor_of, new_subscription, seen_by};
 ghost use Rattle.rb_broker.specs.Holding.{DeskReturns, RefusesTables, ShowsDrained};
 ghost use Rattle.rb_broker.specs.Holding.{SubscribesAfterDesk, counted_step, desk_answer};
 ghost use Rattle.rb_broker.specs.Holding.{ended_step, heard_too, relinked_step};
@@ -18,7 +18,7 @@ use crate::hall::Hall;
 use crate::refusal::{RefusedResume, RefusedSubscription, ResumeError, SubscribeError, TakeError};
 use cs_apply::Tables;
 use rb_desk::{Delivery, DeskError};
-use rb_subscriber::{Auditor, Lost, Missing, Subscription};
+use rb_subscriber::{Auditor, Lost, Missing, Stake, Subscription};
 use std::alloc::Global;
 use std::sync::Wait;
 
@@ -33,20 +33,21 @@ impl<L: Hall> Broker<L> {
         &self,
         rt: &R,
         alloc: Global,
+        keeper: &mut Stake<L>,
         tables: Tables,
         start: u64,
     ) -> Result<Subscription<L>, RefusedSubscription>
-        ensures new { IfOk result (λ s. s ≡ new_subscription s.sub start s.link tables) }
+        ensures new { IfOk result (λ s. s ≡ new_subscription s.sub start s.link tables s.owner) }
         ensures schema { OnOk result (tables.schema ≡ arc_value self.now.schema) }
         ensures refused { IfErr result (RefusesTables (arc_value self.now.schema) tables) }
-        ensures desk { SubscribesAfterDesk L.limits result start }
+        ensures desk { SubscribesAfterDesk L.limits result start keeper.old keeper.new }
     {
         if !self.has_schema(&tables) {
             let why = SubscribeError::OtherSchema;
             return Err(RefusedSubscription { why, tables });
         }
         let mut locked = self.locked.lock(rt);
-        locked.subscribe(alloc, tables, start)
+        locked.subscribe(alloc, keeper, tables, start)
     }
 
     // whether these tables are of the broker's schema
@@ -68,8 +69,10 @@ impl<L: Hall> Broker<L> {
         subscription: &mut Subscription<L>,
         now: u64,
     ) -> Result<Delivery, TakeError>
-        ensures ok { OnOk result (subscription.new ≡ counted_step subscription.old) }
-        ensures err { OnErr result (subscription.new ≡ subscription.old) }
+        ensures ok { OnOk result (subscription.new ≡
+            counted_step (seen_by subscription.old subscription.new.owner)) }
+        ensures err { OnErr result (subscription.new ≡
+            seen_by subscription.old subscription.new.owner) }
         ensures of { IfOk result (λ delivery. (delivery.sub ≡ subscription.old.sub)
             × (delivery.link ≡ subscription.old.link)) }
         ensures drained { IfErr result (ShowsDrained L.cells (cursor_of subscription.old)) }
@@ -77,7 +80,8 @@ impl<L: Hall> Broker<L> {
             (λ p. take p subscription.old.sub subscription.old.link
             (cursor_of subscription.old) now)
             (step.Take subscription.old.sub subscription.old.link (cursor_of subscription.old)
-            now) }
+            now)
+            subscription.old.owner subscription.new.owner }
     {
         let mut locked = self.locked.lock(rt);
         locked.take(alloc, subscription, now)
@@ -87,11 +91,18 @@ impl<L: Hall> Broker<L> {
     /// tick of the caller's clock. No subscription counts the step.
     ///
     /// Refuses `Empty` if nothing is ready.
-    pub fn take_any<R: Wait>(&self, rt: &R, alloc: Global, now: u64) -> Result<Delivery, DeskError>
-        ensures { DeskReturns L.limits result (λ p. take_any p now) (step.TakeAny now) }
+    pub fn take_any<R: Wait>(
+        &self,
+        rt: &R,
+        alloc: Global,
+        keeper: &mut Stake<L>,
+        now: u64,
+    ) -> Result<Delivery, DeskError>
+        ensures { DeskReturns L.limits result (λ p. take_any p now) (step.TakeAny now)
+            keeper.old keeper.new }
     {
         let mut locked = self.locked.lock(rt);
-        locked.take_any(alloc, now)
+        locked.take_any(alloc, keeper, now)
     }
 
     /// Acknowledges a delivery that the subscription has accepted. Returns its floor: everything up
@@ -105,12 +116,15 @@ impl<L: Hall> Broker<L> {
         subscription: &mut Subscription<L>,
         delivery: &Delivery,
     ) -> Result<u64, DeskError>
-        ensures ok { OnOk result (subscription.new ≡ counted_step subscription.old) }
-        ensures err { OnErr result (subscription.new ≡ subscription.old) }
+        ensures ok { OnOk result (subscription.new ≡
+            counted_step (seen_by subscription.old subscription.new.owner)) }
+        ensures err { OnErr result (subscription.new ≡
+            seen_by subscription.old subscription.new.owner) }
         ensures desk { DeskReturns L.limits result (λ p. ack p subscription.old.sub
             delivery.now.link delivery.now.number (cursor_of subscription.old))
             (step.Ack subscription.old.sub delivery.now.link delivery.now.number
-            (cursor_of subscription.old)) }
+            (cursor_of subscription.old))
+            subscription.old.owner subscription.new.owner }
     {
         let mut locked = self.locked.lock(rt);
         locked.ack(alloc, subscription, delivery)
@@ -126,11 +140,14 @@ impl<L: Hall> Broker<L> {
         subscription: &mut Subscription<L>,
         delivery: &Delivery,
     ) -> Result<(), DeskError>
-        ensures ok { OnOk result (subscription.new ≡ counted_step subscription.old) }
-        ensures err { OnErr result (subscription.new ≡ subscription.old) }
+        ensures ok { OnOk result (subscription.new ≡
+            counted_step (seen_by subscription.old subscription.new.owner)) }
+        ensures err { OnErr result (subscription.new ≡
+            seen_by subscription.old subscription.new.owner) }
         ensures desk { DeskReturns L.limits result (λ p. nack p subscription.old.sub
             delivery.now.link delivery.now.number)
-            (step.Nack subscription.old.sub delivery.now.link delivery.now.number) }
+            (step.Nack subscription.old.sub delivery.now.link delivery.now.number)
+            subscription.old.owner subscription.new.owner }
     {
         let mut locked = self.locked.lock(rt);
         locked.nack(alloc, subscription, delivery)
@@ -149,11 +166,14 @@ impl<L: Hall> Broker<L> {
         subscription: &mut Subscription<L>,
         delivery: &Delivery,
     ) -> Result<u64, DeskError>
-        ensures ok { OnOk result (subscription.new ≡ counted_step subscription.old) }
-        ensures err { OnErr result (subscription.new ≡ subscription.old) }
+        ensures ok { OnOk result (subscription.new ≡
+            counted_step (seen_by subscription.old subscription.new.owner)) }
+        ensures err { OnErr result (subscription.new ≡
+            seen_by subscription.old subscription.new.owner) }
         ensures desk { DeskReturns L.limits result (λ p. nack_opened p subscription.old.sub
             delivery.now.link delivery.now.number)
-            (step.NackOpened subscription.old.sub delivery.now.link delivery.now.number) }
+            (step.NackOpened subscription.old.sub delivery.now.link delivery.now.number)
+            subscription.old.owner subscription.new.owner }
     {
         let mut locked = self.locked.lock(rt);
         locked.nack_opened(alloc, subscription, delivery)
@@ -161,12 +181,18 @@ impl<L: Hall> Broker<L> {
 
     /// Makes all deliveries ready again that were taken the timeout ago or earlier. Returns how
     /// many these are. `now` is a tick of the caller's clock.
-    pub fn expire<R: Wait>(&self, rt: &R, alloc: Global, now: u64) -> Result<u64, DeskError>
+    pub fn expire<R: Wait>(
+        &self,
+        rt: &R,
+        alloc: Global,
+        keeper: &mut Stake<L>,
+        now: u64,
+    ) -> Result<u64, DeskError>
         ensures { DeskReturns L.limits result (λ p. (Ok (expire p now).0, (expire p now).1))
-            (step.Expire now) }
+            (step.Expire now) keeper.old keeper.new }
     {
         let mut locked = self.locked.lock(rt);
-        locked.expire(alloc, now)
+        locked.expire(alloc, keeper, now)
     }
 
     /// Continues a subscription after its cursor, under a new link, which it returns: deliveries
@@ -179,11 +205,14 @@ impl<L: Hall> Broker<L> {
         alloc: Global,
         subscription: &mut Subscription<L>,
     ) -> Result<u64, DeskError>
-        ensures ok { IfOk result (λ link. subscription.new ≡ relinked_step link subscription.old) }
-        ensures err { OnErr result (subscription.new ≡ subscription.old) }
+        ensures ok { IfOk result (λ link. subscription.new ≡
+            relinked_step link (seen_by subscription.old subscription.new.owner)) }
+        ensures err { OnErr result (subscription.new ≡
+            seen_by subscription.old subscription.new.owner) }
         ensures desk { DeskReturns L.limits result
             (λ p. reconnect p subscription.old.sub (cursor_of subscription.old))
-            (step.Reconnect subscription.old.sub (cursor_of subscription.old)) }
+            (step.Reconnect subscription.old.sub (cursor_of subscription.old))
+            subscription.old.owner subscription.new.owner }
     {
         let mut locked = self.locked.lock(rt);
         locked.reconnect(alloc, subscription)
@@ -204,11 +233,13 @@ impl<L: Hall> Broker<L> {
         cursor: u64,
     ) -> Result<Subscription<L>, RefusedResume<L>>
         ensures fits { OnOk result (FitsLost lost tables cursor) }
-        ensures ok { IfOk result (λ s. s ≡ counted_step (gone_on lost tables cursor s.link)) }
+        ensures ok { IfOk result (λ s.
+            s ≡ counted_step (seen_by (gone_on lost tables cursor s.link) s.owner)) }
         ensures refused { IfErr result (ResumesNothing lost tables cursor) }
-        ensures link { IfOk result (λ s. ReconnectReturns L.limits lost.sub cursor (Ok s.link)) }
-        ensures desk { IfErr result (λ refused.
-            ReconnectReturns L.limits lost.sub cursor (Err refused.why)) }
+        ensures link { IfOk result (λ s. ReconnectReturns L.limits lost.sub cursor (Ok s.link)
+            lost.owner s.owner) }
+        ensures desk { IfErr result (λ refused. ReconnectReturns L.limits lost.sub cursor
+            (Err refused.why) lost.owner refused.lost.owner) }
     {
         if !lost.fits(&tables, cursor) {
             let why = ResumeError::OtherState;
@@ -227,11 +258,14 @@ impl<L: Hall> Broker<L> {
         alloc: Global,
         subscription: &mut Subscription<L>,
     ) -> Result<(), DeskError>
-        ensures ok { OnOk result (subscription.new ≡ ended_step subscription.old) }
-        ensures err { OnErr result (subscription.new ≡ subscription.old) }
+        ensures ok { OnOk result (subscription.new ≡
+            ended_step (seen_by subscription.old subscription.new.owner)) }
+        ensures err { OnErr result (subscription.new ≡
+            seen_by subscription.old subscription.new.owner) }
         ensures desk { DeskReturns L.limits result
             (λ p. unsubscribe p subscription.old.sub subscription.old.link)
-            (step.Unsubscribe subscription.old.sub subscription.old.link) }
+            (step.Unsubscribe subscription.old.sub subscription.old.link)
+            subscription.old.owner subscription.new.owner }
     {
         let mut locked = self.locked.lock(rt);
         locked.unsubscribe(alloc, subscription)

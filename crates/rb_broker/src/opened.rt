@@ -3,7 +3,8 @@
 ghost use Rattle.std.specs.Prelude.{◌≡◌, IfOk};
 
 use cs_model::Schema;
-use rb_desk::{Config, Desk};
+use rb_desk::{Config, Desk, Step};
+use rb_history::{Chronicle, Hand};
 use rb_intake::{Intake, MakerPass, SequencerPass};
 use rb_sequence::{Filler, Preparer, Sequence};
 use rb_subscriber::MOST_SUBSCRIPTIONS;
@@ -13,8 +14,8 @@ use std::sync::Arc;
 use std::sync::ledger::Blank;
 
 /// The parts of a new broker. Contracts see its limits, its tables, the cells of its sequence, the
-/// queue of its intake with its size, and the ledger of its subscriptions' steps. `Broker::start`
-/// makes the broker of it, in a hall that has these cells, this queue and this ledger.
+/// queue of its intake with its size, the ledger of its subscriptions' steps, and the name of its
+/// history. `Broker::start` makes the broker of it, in a hall that has these.
 #[derive(Drop)]
 pub struct Opened {
     pub(crate) config: Config,
@@ -27,6 +28,9 @@ pub struct Opened {
     pub(crate) maker: MakerPass,
     pub(crate) desk: Desk,
     pub(crate) blank: Blank,
+    pub(crate) history: Chronicle<Step>,
+    pub(crate) keeper: Hand<Step>,
+    pub(crate) placer: Hand<Step>,
 }
 
 impl Model for Opened {
@@ -44,6 +48,7 @@ impl Model for Opened {
       queue = o.intake.queue;
       room = o.intake.capacity;
       ledger = o.blank.name;
+      history = o.history.name;
     } };
 
     ghost invariant = { λ o. (o.sequencer
@@ -52,7 +57,9 @@ impl Model for Opened {
         × (o.desk ≡ record { picture = empty_picture o.config; steps = [] })
         × (o.sequence.capacity ≡ o.config.capacity)
         × (o.blank.parts ≡ 1024)
-        × (o.preparer ≡ o.sequence) × (o.filler ≡ o.sequence) };
+        × (o.preparer ≡ o.sequence) × (o.filler ≡ o.sequence) × (o.history.log ≡ [])
+        × (o.keeper.name ≡ o.history.name) × (o.keeper.made ≡ 0)
+        × (o.placer.name ≡ o.history.name) × (o.placer.made ≡ 0) };
 }
 
 impl Opened {
@@ -67,6 +74,7 @@ impl Opened {
         let schema = Arc::new(alloc, schema)?;
         let (sequence, preparer, filler) = Sequence::new(alloc, config.capacity())?;
         let (intake, sequencer, maker) = Intake::new(alloc, config.intake() as usize)?;
+        let (history, keeper, placer) = Chronicle::open();
         Ok(Opened {
             config,
             schema,
@@ -78,6 +86,9 @@ impl Opened {
             maker,
             desk: Desk::new(alloc, config)?,
             blank: Blank::new(MOST_SUBSCRIPTIONS),
+            history,
+            keeper,
+            placer,
         })
     }
 }

@@ -22,12 +22,16 @@ impl<E> Model for Chronicle<E> {
 }
 
 impl<E> Chronicle<E> {
-    /// A new list without entries, with a name that no other list has, and its first hand.
-    pub fn open() -> (Chronicle<E>, Hand<E>)
-        ensures { (result.0.log ≡ []) × (result.1.name ≡ result.0.name) × (result.1.made ≡ 0) }
+    /// A new list without entries, with a name that no other list has, and its first two hands.
+    pub fn open() -> (Chronicle<E>, Hand<E>, Hand<E>)
+        ensures { (result.0.log ≡ []) × (result.1.name ≡ result.0.name) × (result.1.made ≡ 0)
+            × (result.2.name ≡ result.0.name) × (result.2.made ≡ 0) }
     {
         (
             Chronicle {
+                marker: PhantomData,
+            },
+            Hand {
                 marker: PhantomData,
             },
             Hand {

@@ -1,3 +1,4 @@
+pub mod Owner
 pub mod Endpoint
 pub mod Accept
 pub mod Applier

@@ -7,6 +7,7 @@ use Rattle.par_apply.specs.RowChanges.{RowChanges}
 use Rattle.rb_sequence.specs.Cells.{CellToken}
 use Rattle.rb_sequence.specs.Entry.{Entry}
 use Rattle.rb_subscriber.specs.Endpoint.{Endpoint}
+use Rattle.rb_subscriber.specs.Owner.{Owner}
 use Rattle.rb_subscriber.specs.Shown.{entries_told}
 
 -- What a durable store may have beyond a subscription that fell: the entries of the delivery that
@@ -17,8 +18,8 @@ pub record PendingAccept : Type 0 where
 
 -- A subscription: its number at the desk, the number after which it began, its link, whether it is
 -- closed, the tables that it began with, its tables, the tokens of what it accepted, in order, the
--- same tokens by accepted deliveries, what is pending if it has fallen, and how many of its steps
--- were counted.
+-- same tokens by accepted deliveries, what is pending if it has fallen, how many of its steps were
+-- counted, and what it has seen of its broker's history.
 pub record SubscriptionState : Type 0 where
   pub sub : ℕ
   pub start : ℕ
@@ -30,6 +31,7 @@ pub record SubscriptionState : Type 0 where
   pub batches : List (List CellToken)
   pub pending : Option PendingAccept
   pub steps : ℕ
+  pub owner : Owner
 
 -- the entries of accepted deliveries, each delivery's together
 abbrev pub batches_told : List (List CellToken) → List (List Entry)
@@ -51,8 +53,8 @@ own_endpoint s = record {
 }
 
 -- a subscription that has accepted nothing
-abbrev pub new_subscription : ℕ → ℕ → ℕ → tables.TableState → SubscriptionState
-new_subscription sub start link tables = record {
+abbrev pub new_subscription : ℕ → ℕ → ℕ → tables.TableState → Owner → SubscriptionState
+new_subscription sub start link tables owner = record {
   sub = sub;
   start = start;
   link = link;
@@ -63,7 +65,12 @@ new_subscription sub start link tables = record {
   batches = [];
   pending = None;
   steps = 0;
+  owner = owner;
 }
+
+-- the same subscription, when its owner has seen more
+abbrev pub seen_by : SubscriptionState → Owner → SubscriptionState
+seen_by s owner = record s { owner = owner }
 
 -- the token of the entry with this number, if it is accepted
 abbrev pub accepted_token : ℕ → List CellToken → ℕ → Option CellToken

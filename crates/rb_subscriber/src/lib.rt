@@ -20,6 +20,7 @@ mod pending;
 mod refusal;
 mod register;
 mod shown;
+mod stake;
 mod step_ledger;
 mod subscription;
 
@@ -31,5 +32,6 @@ pub use lost::Lost;
 pub use refusal::{AcceptError, AcceptRefusal, DurableError, SubscriptionError};
 pub use register::{Auditor, MOST_SUBSCRIPTIONS, Missing, Register};
 pub use shown::{Shown, ShownEntries};
+pub use stake::Stake;
 pub use step_ledger::StepLedger;
 pub use subscription::Subscription;

@@ -17,7 +17,7 @@ use std::marker::Model;
 /// hand what it has to the broker's `resume`.
 #[derive(Drop)]
 pub struct Lost<L: StepLedger> {
-    subscription: Subscription<L>,
+    pub(crate) subscription: Subscription<L>,
 }
 
 impl<L: StepLedger> Model for Lost<L> {

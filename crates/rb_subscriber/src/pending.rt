@@ -107,6 +107,7 @@ impl<L: StepLedger> Subscription<L> {
             pending,
             steps,
             share,
+            stake,
         } = self;
         let kept = cursor != end.cursor();
         let (told, batches) = joined(told, batches, pending, kept);
@@ -119,6 +120,7 @@ impl<L: StepLedger> Subscription<L> {
             pending: None,
             steps,
             share,
+            stake,
         }
     }
 }

@@ -10,6 +10,7 @@ use crate::batches::Batches;
 use crate::beginning::Beginning;
 use crate::endpoint::Endpoint;
 use crate::lost::Lost;
+use crate::stake::Stake;
 use crate::step_ledger::StepLedger;
 use crate::subscription::Subscription;
 use cs_apply::Tables;
@@ -97,7 +98,7 @@ impl<L: StepLedger> Register<L> {
     }
 
     /// Makes a subscription that has accepted nothing: under the desk's number and link, after
-    /// number `start`, with these tables.
+    /// number `start`, with these tables. It has seen what its stake has.
     pub fn subscribe(
         &mut self,
         alloc: Global,
@@ -105,9 +106,10 @@ impl<L: StepLedger> Register<L> {
         link: u64,
         start: u64,
         tables: Tables,
+        stake: Stake<L>,
     ) -> Subscription<L>
         requires { (self.old.made < 1024) × (L.all ≡ 1024) }
-        ensures new { result ≡ new_subscription sub start link tables }
+        ensures new { result ≡ new_subscription sub start link tables stake }
         ensures made { self.new ≡ record self.old { made = self.old.made + 1 } }
     {
         let share = self.rest.split_off(1, 0);
@@ -122,6 +124,7 @@ impl<L: StepLedger> Register<L> {
             pending: None,
             steps: 0,
             share,
+            stake,
         }
     }
 

@@ -4,8 +4,8 @@
 use std::marker::Brand;
 use std::sync::ledger::Ledger;
 
-/// What the subscriptions of one broker have in common: the ledger of their steps, and the cells of
-/// the broker's sequence.
+/// What the subscriptions of one broker have in common: the ledger of their steps, the cells of the
+/// broker's sequence, and the name of its history.
 pub trait StepLedger: Ledger {
     ghost use Rattle.std.specs.Prelude.{ℕ};
     ghost use Rattle.rb_sequence.specs.Cells.{Cells};
@@ -14,6 +14,9 @@ pub trait StepLedger: Ledger {
     ghost all: { ℕ };
 
     ghost cells: { Cells };
+
+    /// The name of the history of the broker's steps.
+    ghost history: { ℕ × ℕ };
 }
 
 impl StepLedger for Brand {
@@ -22,4 +25,6 @@ impl StepLedger for Brand {
     ghost all = { 0 };
 
     ghost cells = { no_cells };
+
+    ghost history = { (0, 0) };
 }

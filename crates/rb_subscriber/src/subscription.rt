@@ -23,6 +23,7 @@ use crate::endpoint::Endpoint;
 use crate::pending::Pending;
 use crate::refusal::{AcceptError, AcceptRefusal, SubscriptionError};
 use crate::shown::{Shown, ShownEntries, add, tokens_of};
+use crate::stake::Stake;
 use crate::step_ledger::StepLedger;
 use cs_apply::{ApplyError, Tables};
 use cs_model::Changeset;
@@ -51,6 +52,8 @@ pub struct Subscription<L: StepLedger> {
     pub(crate) pending: Option<Pending>,
     pub(crate) steps: u64,
     pub(crate) share: Share<L>,
+    // what it has seen of its broker's history
+    pub(crate) stake: Stake<L>,
 }
 
 impl<L: StepLedger> Model for Subscription<L> {
@@ -85,6 +88,7 @@ impl<L: StepLedger> Model for Subscription<L> {
       batches = s.batches.list;
       pending = s.pending;
       steps = s.steps;
+      owner = s.stake;
     } };
 
     ghost invariant = { λ s. (s.end.cursor ≡ s.end.start + length s.told.items)

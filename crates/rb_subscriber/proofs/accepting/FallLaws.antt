@@ -19,6 +19,7 @@ use Rattle.rb_subscriber.specs.Accept.{HasSingleTables, accept_brought, joined_b
 use Rattle.rb_subscriber.specs.AcceptShown.{DueAnswers}
 use Rattle.rb_subscriber.specs.Durable.{DurableAnswers, Falls, IsPendingOver, KeepAnswers, KeptAnswers, durable_by}
 use Rattle.rb_subscriber.specs.Endpoint.{Endpoint}
+use Rattle.rb_subscriber.specs.Owner.{Owner}
 use Rattle.rb_subscriber.specs.Shown.{ShowDelivery, entries_told, tokens_shown}
 use Rattle.rb_subscriber.specs.Subscription.{PendingAccept, SubscriptionState, own_endpoint}
 use Rattle.rb_subscriber.specs.declared.keeping.KeepError.{KeepError}
@@ -93,67 +94,67 @@ fell_holds cells base e new told kept p is same at tokens singly over =
         × HasSingleTables base (entries_told xs) x.tables × (x.fallen ≡ true)
         × IsPendingOver cells x.cursor base xs x.tables p
 
-state_falls : (cells : Cells) (d : Delivery) (sub steps : ℕ) (base : TableState)
+state_falls : (cells : Cells) (d : Delivery) (owner : Owner) (sub steps : ℕ) (base : TableState)
     (batches : List (List CellToken)) (before : Option PendingAccept)
     (told shown : List CellToken) (changes : RowChanges) (e new after : Endpoint)
     → e.cursor ≡ e.start + length told → e.fallen ≡ is_some before → ShowDelivery cells d shown
     → accept_brought e (entries_told shown) d ≡ Ok after
     → after.tables ≡ changed_tables e.tables changes → new ≡ record e { fallen = true }
-    → Falls cells d (state_of sub steps base batches before e told)
-    (state_of sub steps base batches (Some (record { tokens = shown; changes = changes })) new told)
-state_falls cells d sub steps base batches before told shown changes e new after at fell are accepts changed fallen = record {
+    → Falls cells d (state_of owner sub steps base batches before e told)
+    (state_of owner sub steps base batches (Some (record { tokens = shown; changes = changes })) new told)
+state_falls cells d owner sub steps base batches before told shown changes e new after at fell are accepts changed fallen = record {
   pending = record { tokens = shown; changes = changes };
   shown = are;
   after = after;
-  accepts = ap (λ (x : Endpoint). accept_brought x (entries_told shown) d) (own_as sub steps base batches before e told at fell)
+  accepts = ap (λ (x : Endpoint). accept_brought x (entries_told shown) d) (own_as owner sub steps base batches before e told at fell)
       ∙ accepts;
   changed = changed;
-  kept = ap (λ (x : Endpoint). state_of sub steps base batches (Some (record { tokens = shown; changes = changes })) x told) fallen;
+  kept = ap (λ (x : Endpoint). state_of owner sub steps base batches (Some (record { tokens = shown; changes = changes })) x told) fallen;
 }
 
-pub it_falls : (cells : Cells) (d : Delivery) (sub steps : ℕ) (base : TableState)
+pub it_falls : (cells : Cells) (d : Delivery) (owner : Owner) (sub steps : ℕ) (base : TableState)
     (batches : List (List CellToken)) (before : Option PendingAccept)
     (told kept shown : List CellToken) (changes : RowChanges) (e new after : Endpoint) (s : SubscriptionState)
-    → state_of sub steps base batches before e told ≡ s → kept ≡ told
+    → state_of owner sub steps base batches before e told ≡ s → kept ≡ told
     → e.cursor ≡ e.start + length told → e.fallen ≡ is_some before → ShowDelivery cells d shown
     → accept_brought e (entries_told shown) d ≡ Ok after
     → after.tables ≡ changed_tables e.tables changes → new ≡ record e { fallen = true }
-    → Falls cells d s (state_of sub steps base batches (Some (record { tokens = shown; changes = changes })) new kept)
-it_falls cells d sub steps base batches before told kept shown changes e new after s seen same at fell are accepts changed fallen =
+    → Falls cells d s (state_of owner sub steps base batches (Some (record { tokens = shown; changes = changes })) new kept)
+it_falls cells d owner sub steps base batches before told kept shown changes e new after s seen same at fell are accepts changed fallen =
     subst (λ (x : SubscriptionState). Falls cells d x
-    (state_of sub steps base batches (Some (record { tokens = shown; changes = changes })) new kept)) seen
-    (subst (λ (xs : List CellToken). Falls cells d (state_of sub steps base batches before e told)
-    (state_of sub steps base batches (Some (record { tokens = shown; changes = changes })) new xs)) (sym same)
-    (state_falls cells d sub steps base batches before told shown changes e new after at fell are accepts changed fallen))
+    (state_of owner sub steps base batches (Some (record { tokens = shown; changes = changes })) new kept)) seen
+    (subst (λ (xs : List CellToken). Falls cells d (state_of owner sub steps base batches before e told)
+    (state_of owner sub steps base batches (Some (record { tokens = shown; changes = changes })) new xs)) (sym same)
+    (state_falls cells d owner sub steps base batches before told shown changes e new after at fell are accepts changed fallen))
 
 -- ---- a refusal
 
-refused_here : (cells : Cells) (d : Delivery) (sub steps : ℕ) (base : TableState)
+refused_here : (cells : Cells) (d : Delivery) (owner : Owner) (sub steps : ℕ) (base : TableState)
     (batches : List (List CellToken)) (before : Option PendingAccept)
     (told kept : List CellToken) (shown : Shown) (e new : Endpoint) (why : AcceptRefusal) (s : SubscriptionState)
-    → state_of sub steps base batches before e told ≡ s → kept ≡ told
+    → state_of owner sub steps base batches before e told ≡ s → kept ≡ told
     → e.cursor ≡ e.start + length told → e.fallen ≡ is_some before
     → ShowDelivery cells d (tokens_shown shown) → accept_brought e (entries_told (tokens_shown shown)) d ≡ Err why
-    → new ≡ e → DueAnswers cells d (Err (RefusedEntries why shown)) s (state_of sub steps base batches before new kept)
-refused_here cells d sub steps base batches before told kept shown e new why s seen same at fell are refuses unmoved =
-    let own : own_endpoint s ≡ e = ap own_endpoint (sym seen) ∙ own_as sub steps base batches before e told at fell in
-    let back : state_of sub steps base batches before new kept ≡ s =
-    ap (λ (x : Endpoint). state_of sub steps base batches before x kept) unmoved
-    ∙ ap (state_of sub steps base batches before e) same ∙ seen in
+    → new ≡ e → DueAnswers cells d (Err (RefusedEntries why shown)) s (state_of owner sub steps base batches before new kept)
+refused_here cells d owner sub steps base batches before told kept shown e new why s seen same at fell are refuses unmoved =
+    let own : own_endpoint s ≡ e = ap own_endpoint (sym seen) ∙ own_as owner sub steps base batches before e told at fell in
+    let back : state_of owner sub steps base batches before new kept ≡ s =
+    ap (λ (x : Endpoint). state_of owner sub steps base batches before x kept) unmoved
+    ∙ ap (state_of owner sub steps base batches before e) same ∙ seen in
     (back, are, ap (λ (x : Endpoint). accept_brought x (entries_told (tokens_shown shown)) d) own ∙ refuses)
 
 -- the same, where the cells and the entries stand elsewhere
-pub refused_kept : {E : Type 0} (cells sequence : Cells) (d : Delivery) (sub steps : ℕ) (base : TableState)
+pub refused_kept : {E : Type 0} (cells sequence : Cells) (d : Delivery) (owner : Owner) (sub steps : ℕ) (base : TableState)
     (batches : List (List CellToken)) (before : Option PendingAccept) (told kept : List CellToken) (shown : Shown) (entries : List Entry)
     (e new : Endpoint) (fault : KeepError E) (why : AcceptRefusal) (s : SubscriptionState)
-    → state_of sub steps base batches before e told ≡ s → kept ≡ told
+    → state_of owner sub steps base batches before e told ≡ s → kept ≡ told
     → e.cursor ≡ e.start + length told → e.fallen ≡ is_some before
     → sequence ≡ cells → ShowDelivery sequence d (tokens_shown shown) → entries ≡ entries_told (tokens_shown shown)
     → fault ≡ keep.Refused why → KeepAnswers (Err fault) (accept_brought e entries d) e new
-    → DueAnswers cells d (Err (RefusedEntries why shown)) s (state_of sub steps base batches before new kept)
-refused_kept cells sequence d sub steps base batches before told kept shown entries e new fault why s seen same at fell
+    → DueAnswers cells d (Err (RefusedEntries why shown)) s (state_of owner sub steps base batches before new kept)
+refused_kept cells sequence d owner sub steps base batches before told kept shown entries e new fault why s seen same at fell
     here shows back is answers =
     let refuses = subst (λ (x : KeepError _). KeepAnswers (Err x) (accept_brought e entries d) e new) is answers in
-    refused_here cells d sub steps base batches before told kept shown e new why s seen same at fell
+    refused_here cells d owner sub steps base batches before told kept shown e new why s seen same at fell
     (subst (λ cs. ShowDelivery cs d (tokens_shown shown)) here shows)
     (subst (λ es. accept_brought e es d ≡ Err why) back refuses.0) refuses.1

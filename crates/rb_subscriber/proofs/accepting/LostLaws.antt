@@ -13,6 +13,7 @@ use Rattle.rb_subscriber.specs.Batches.{HasBatchTables}
 use Rattle.rb_subscriber.specs.Durable.{IsPendingOver}
 use Rattle.rb_subscriber.specs.Endpoint.{Endpoint}
 use Rattle.rb_subscriber.specs.Lost.{FitsLost, pending_tokens, gone_on}
+use Rattle.rb_subscriber.specs.Owner.{Owner}
 use Rattle.rb_subscriber.specs.Shown.{entries_told}
 use Rattle.rb_subscriber.specs.Subscription.{PendingAccept, SubscriptionState, batches_told}
 use Rattle.rb_subscriber.proofs.accepting.AcceptLaws.{numbers_tested}
@@ -90,34 +91,34 @@ goes_on_either cells start cursor base now t batches told p kept tokens singly b
     (cond k (batches ++ p.tokens ∷ []) batches))
     (sym accepted) (after_goes cells start cursor base now t batches told p tokens batched over h.0 h.1)
 
-goes_on_some : (cells : Cells) (sub steps cursor : ℕ) (base t : TableState) (batches : List (List CellToken))
+goes_on_some : (cells : Cells) (owner : Owner) (sub steps cursor : ℕ) (base t : TableState) (batches : List (List CellToken))
     (e : Endpoint) (told : List CellToken) (pending : Option PendingAccept) (kept : Bool)
     → AreInCells cells (suc e.start) told → HasSingleTables base (entries_told told) e.tables
     → HasBatchTables base (batches_told batches) (entries_told told) e.tables → IsSome pending
     → IfSome pending (IsPendingOver cells e.cursor base told e.tables) → e.cursor ≡ e.start + length told
-    → kept ≡ not (cursor == e.cursor) → FitsLost (state_of sub steps base batches pending e told) t cursor
+    → kept ≡ not (cursor == e.cursor) → FitsLost (state_of owner sub steps base batches pending e told) t cursor
     → GoesOnWith cells e.start base told (pending_tokens pending) t cursor
     (cond kept (told ++ pending_tokens pending) told) (cond kept (batches ++ pending_tokens pending ∷ []) batches)
-goes_on_some cells sub steps cursor base t batches e told None kept tokens singly batched some over at is fits = absurd cc
-goes_on_some cells sub steps cursor base t batches e told (Some p) kept tokens singly batched some over at is fits =
+goes_on_some cells owner sub steps cursor base t batches e told None kept tokens singly batched some over at is fits = absurd cc
+goes_on_some cells owner sub steps cursor base t batches e told (Some p) kept tokens singly batched some over at is fits =
     goes_on_either cells e.start cursor base e.tables t batches told p kept tokens singly batched
     (subst (λ n. IsPendingOver cells n base told e.tables p) at over) (is ∙ ap (λ n. not (cursor == n)) at) fits
 
-pub goes_on_with : (cells : Cells) (sub steps cursor from : ℕ) (base t : TableState) (batches : List (List CellToken))
+pub goes_on_with : (cells : Cells) (owner : Owner) (sub steps cursor from : ℕ) (base t : TableState) (batches : List (List CellToken))
     (e : Endpoint) (told grown : List CellToken) (parts : List (List CellToken)) (pending : Option PendingAccept)
-    (s : SubscriptionState) → state_of sub steps base batches pending e told ≡ s → IsSome s.pending → FitsLost s t cursor
+    (s : SubscriptionState) → state_of owner sub steps base batches pending e told ≡ s → IsSome s.pending → FitsLost s t cursor
     → AreInCells cells (suc e.start) told → HasSingleTables base (entries_told told) e.tables
     → HasBatchTables base (batches_told batches) (entries_told told) e.tables
     → IfSome pending (IsPendingOver cells e.cursor base told e.tables) → e.cursor ≡ e.start + length told
     → from ≡ e.cursor → grown ≡ cond (not (cursor == from)) (told ++ pending_tokens pending) told
     → parts ≡ cond (not (cursor == from)) (batches ++ pending_tokens pending ∷ []) batches
     → GoesOnWith cells e.start base told (pending_tokens pending) t cursor grown parts
-goes_on_with cells sub steps cursor from base t batches e told grown parts pending s seen some fits tokens singly batched
+goes_on_with cells owner sub steps cursor from base t batches e told grown parts pending s seen some fits tokens singly batched
     over at here is parted =
     subst (λ (xs : List CellToken). GoesOnWith cells e.start base told (pending_tokens pending) t cursor xs parts) (sym is)
     (subst (GoesOnWith cells e.start base told (pending_tokens pending) t cursor
     (cond (not (cursor == from)) (told ++ pending_tokens pending) told)) (sym parted)
-    (goes_on_some cells sub steps cursor base t batches e told pending (not (cursor == from)) tokens singly batched
+    (goes_on_some cells owner sub steps cursor base t batches e told pending (not (cursor == from)) tokens singly batched
     (subst (λ (x : SubscriptionState). IsSome x.pending) (sym seen) some) over at
     (ap (λ n. not (cursor == n)) here) (subst (λ (x : SubscriptionState). FitsLost x t cursor) (sym seen) fits)))
 
@@ -135,18 +136,18 @@ goes_on_holds cells base t told pending grown parts cursor link e new is goes =
     (goes.far, goes.tokens, goes.singly, refl, goes.batched)
 
 -- the subscription that goes on
-pub resumed_is : (sub steps cursor from link : ℕ) (base t : TableState) (batches parts : List (List CellToken))
+pub resumed_is : (owner : Owner) (sub steps cursor from link : ℕ) (base t : TableState) (batches parts : List (List CellToken))
     (pending : Option PendingAccept) (e new : Endpoint) (told grown : List CellToken)
     → new ≡ record e { cursor = cursor; link = link; fallen = false; tables = t }
     → grown ≡ take (cursor - e.start) (told ++ pending_tokens pending)
     → parts ≡ cond (not (cursor == from)) (batches ++ pending_tokens pending ∷ []) batches
     → from ≡ e.start + length told
-    → state_of sub steps base parts None new grown
-    ≡ gone_on (state_of sub steps base batches pending e told) t cursor link
-resumed_is sub steps cursor from link base t batches parts pending e new told grown is cut parted here =
-    ap (λ (x : Endpoint). state_of sub steps base parts None x grown) is
-    ∙ ap (λ (xs : List CellToken). state_of sub steps base parts None goes xs) cut
-    ∙ ap (λ (bs : List (List CellToken)). state_of sub steps base bs None goes
+    → state_of owner sub steps base parts None new grown
+    ≡ gone_on (state_of owner sub steps base batches pending e told) t cursor link
+resumed_is owner sub steps cursor from link base t batches parts pending e new told grown is cut parted here =
+    ap (λ (x : Endpoint). state_of owner sub steps base parts None x grown) is
+    ∙ ap (λ (xs : List CellToken). state_of owner sub steps base parts None goes xs) cut
+    ∙ ap (λ (bs : List (List CellToken)). state_of owner sub steps base bs None goes
     (take (cursor - e.start) (told ++ pending_tokens pending)))
     (parted ∙ ap (λ n. cond (not (cursor == n)) (batches ++ pending_tokens pending ∷ []) batches) here)
   where

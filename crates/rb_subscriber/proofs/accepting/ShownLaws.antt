@@ -21,6 +21,7 @@ use Rattle.rb_subscriber.specs.declared.refusal.SubscriptionError.{SubscriptionE
 use Rattle.rb_subscriber.specs.declared.refusal.SubscriptionError.TheVariants.{Refused, RefusedEntries, Unseen, Memory}
 use Rattle.rb_subscriber.specs.AcceptShown.{DueAnswers, LookAnswers}
 use Rattle.rb_sequence.specs.Cells.{AreInCells}
+use Rattle.rb_subscriber.specs.Owner.{Owner}
 use Rattle.rb_subscriber.specs.Shown.{ShowDelivery, entries_told, tokens_shown}
 use Rattle.rb_subscriber.specs.Subscription.{PendingAccept, SubscriptionState, batches_told, own_endpoint}
 use Rattle.rb_subscriber.proofs.accepting.AcceptLaws.{accepted_steps, asked_of}
@@ -148,9 +149,9 @@ end_as e n b is fell = ap (λ (k : ℕ). the_end k b) (sym is) ∙ ap (λ (f : B
     the_end k f = record e { cursor = k; fallen = f }
 
 -- the state of a subscription with this endpoint and these tokens
-abbrev pub state_of : ℕ → ℕ → tables.TableState → List (List CellToken) → Option PendingAccept → Endpoint → List CellToken
+abbrev pub state_of : Owner → ℕ → ℕ → tables.TableState → List (List CellToken) → Option PendingAccept → Endpoint → List CellToken
     → SubscriptionState
-state_of sub steps base batches pending e told = record {
+state_of owner sub steps base batches pending e told = record {
   sub = sub;
   start = e.start;
   link = e.link;
@@ -161,32 +162,33 @@ state_of sub steps base batches pending e told = record {
   batches = batches;
   pending = pending;
   steps = steps;
+  owner = owner;
 }
 
-pub own_as : (sub steps : ℕ) (base : tables.TableState) (batches : List (List CellToken))
+pub own_as : (owner : Owner) (sub steps : ℕ) (base : tables.TableState) (batches : List (List CellToken))
     (pending : Option PendingAccept) (e : Endpoint) (told : List CellToken)
     → e.cursor ≡ e.start + length told → e.fallen ≡ is_some pending
-    → own_endpoint (state_of sub steps base batches pending e told) ≡ e
-own_as sub steps base batches pending e told at fell = end_as e (e.start + length told) (is_some pending) at fell
+    → own_endpoint (state_of owner sub steps base batches pending e told) ≡ e
+own_as owner sub steps base batches pending e told at fell = end_as e (e.start + length told) (is_some pending) at fell
 
 -- what it has accepted since is what came to the end
 since_is : (told shown grown : List CellToken) → grown ≡ told ++ shown → drop (length told) grown ≡ shown
 since_is told shown grown more = ap (drop (length told)) more ∙ drop-append_seam told shown
 
-due_one_more : (cells : Cells) (d : Delivery) (sub steps cursor : ℕ) (base : tables.TableState)
+due_one_more : (cells : Cells) (d : Delivery) (owner : Owner) (sub steps cursor : ℕ) (base : tables.TableState)
     (batches : List (List CellToken)) (pending : Option PendingAccept) (told grown shown : List CellToken)
     (e new : Endpoint) → WasAccepted cells d base batches told shown grown e new → e.cursor ≡ e.start + length told
     → e.fallen ≡ is_some pending → cursor ≡ new.cursor
-    → DueAnswers cells d (Ok cursor) (state_of sub steps base batches pending e told)
-    (state_of sub steps base (batches ++ shown ∷ []) pending new grown)
-due_one_more cells d sub steps cursor base batches pending told grown shown e new was at fell says =
+    → DueAnswers cells d (Ok cursor) (state_of owner sub steps base batches pending e told)
+    (state_of owner sub steps base (batches ++ shown ∷ []) pending new grown)
+due_one_more cells d owner sub steps cursor base batches pending told grown shown e new was at fell says =
     let same : new.fallen ≡ is_some pending = ap (λ (x : Endpoint). x.fallen) was.accepts.kept ∙ fell in
-    let from = own_as sub steps base batches pending e told at fell in
-    let to = own_as sub steps base (batches ++ shown ∷ []) pending new grown was.far same in
+    let from = own_as owner sub steps base batches pending e told at fell in
+    let to = own_as owner sub steps base (batches ++ shown ∷ []) pending new grown was.far same in
     let since = sym (since_is told shown grown was.more) in (
       subst (λ (xs : List CellToken). ShowDelivery cells d xs) since was.are,
-      subst (λ (xs : List CellToken). accept_brought (own_endpoint (state_of sub steps base batches pending e told))
-          (entries_told xs) d ≡ Ok (own_endpoint (state_of sub steps base (batches ++ shown ∷ []) pending new grown))) since
+      subst (λ (xs : List CellToken). accept_brought (own_endpoint (state_of owner sub steps base batches pending e told))
+          (entries_told xs) d ≡ Ok (own_endpoint (state_of owner sub steps base (batches ++ shown ∷ []) pending new grown))) since
           (ap (λ (x : Endpoint). accept_brought x (entries_told shown) d) from ∙ was.ok ∙ ap (λ x. Ok x) (sym to)),
       says ∙ was.far,
       ap (λ (x : Endpoint). as_state x grown shown) was.accepts.kept
@@ -195,18 +197,18 @@ due_one_more cells d sub steps cursor base batches pending told grown shown e ne
     )
   where
     as_state : Endpoint → List CellToken → List CellToken → SubscriptionState
-    as_state x xs batch = record (state_of sub steps base (batches ++ batch ∷ []) pending x xs) { tables = new.tables }
+    as_state x xs batch = record (state_of owner sub steps base (batches ++ batch ∷ []) pending x xs) { tables = new.tables }
 
-pub due_ok : (cells : Cells) (d : Delivery) (sub steps cursor : ℕ) (base : tables.TableState)
+pub due_ok : (cells : Cells) (d : Delivery) (owner : Owner) (sub steps cursor : ℕ) (base : tables.TableState)
     (batches parts : List (List CellToken)) (pending : Option PendingAccept) (told grown shown : List CellToken)
     (e new : Endpoint) → WasAccepted cells d base batches told shown grown e new → e.cursor ≡ e.start + length told
     → e.fallen ≡ is_some pending → cursor ≡ new.cursor → parts ≡ batches ++ shown ∷ []
-    → DueAnswers cells d (Ok cursor) (state_of sub steps base batches pending e told)
-    (state_of sub steps base parts pending new grown)
-due_ok cells d sub steps cursor base batches parts pending told grown shown e new was at fell says parted =
-    subst (λ bs. DueAnswers cells d (Ok cursor) (state_of sub steps base batches pending e told)
-    (state_of sub steps base bs pending new grown)) (sym parted)
-    (due_one_more cells d sub steps cursor base batches pending told grown shown e new was at fell says)
+    → DueAnswers cells d (Ok cursor) (state_of owner sub steps base batches pending e told)
+    (state_of owner sub steps base parts pending new grown)
+due_ok cells d owner sub steps cursor base batches parts pending told grown shown e new was at fell says parted =
+    subst (λ bs. DueAnswers cells d (Ok cursor) (state_of owner sub steps base batches pending e told)
+    (state_of owner sub steps base bs pending new grown)) (sym parted)
+    (due_one_more cells d owner sub steps cursor base batches pending told grown shown e new was at fell says)
 
 applied_asks : (old : Endpoint) (last : ℕ) (r : Result tables.TableState Conflict) → AsksTables (applied old last r)
 applied_asks old last (Ok rows) = tt

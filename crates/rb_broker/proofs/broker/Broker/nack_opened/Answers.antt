@@ -1,5 +1,12 @@
+use Rattle.rb_desk.specs.Calls.{nack_opened}
+use Rattle.rb_desk.specs.declared.step.Step.TheVariants as step
+use Rattle.rb_broker.proofs.StepLaws.{returns}
 use Rattle.rb_broker.proofs.broker.Broker.nack_opened.Goals as goal
 
 -- the desk that the lock holds returns it
 pub returns-clause-desk : goal.returns-clause-desk
-returns-clause-desk g c = (_, _, c.nack_opened.ensures.held, c.nack_opened.ensures.desk)
+returns-clause-desk g c =
+    let s = c.args.subscription.now in
+    let h = c.nack_opened.ensures in
+    returns g.L.Hall.limits c.nack_opened.result (λ p. nack_opened p s.sub c.args.delivery.now.link c.args.delivery.now.number)
+    (step.NackOpened s.sub c.args.delivery.now.link c.args.delivery.now.number) _ _ _ _ _ _ h.others h.held h.log h.seen h.desk

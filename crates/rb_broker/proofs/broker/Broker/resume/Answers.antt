@@ -12,9 +12,11 @@ returns-clause-refused g c =
 -- the desk that the lock holds returns it
 pub returns-clause-link : goal.returns-clause-link
 returns-clause-link g c =
-    link_returns g.L.Hall.limits c.resume.result c.args.lost c.args.tables c.args.cursor _ _ c.resume.ensures.held c.resume.ensures.made
+    let h = c.resume.ensures in
+    link_returns g.L.Hall.limits c.resume.result c.args.lost c.args.tables c.args.cursor _ _ _ _ h.others h.held h.log h.ok h.made
 
 pub returns-clause-desk : goal.returns-clause-desk
 returns-clause-desk g c =
-    refusal_returns g.L.Hall.limits c.resume.result c.args.lost c.args.tables c.args.cursor _ _ c.resume.ensures.held
-    c.resume.ensures.made
+    let h = c.resume.ensures in
+    refusal_returns g.L.Hall.limits c.resume.result c.args.lost c.args.tables c.args.cursor _ _ _ _ h.others h.held h.log h.err
+    h.made

@@ -9,4 +9,6 @@ returns-clause-refused g c =
 
 pub returns-clause-desk : goal.returns-clause-desk
 returns-clause-desk g c =
-    subscribes_after g.L.Hall.limits c.subscribe.result c.args.tables c.args.start _ _ c.subscribe.ensures.held c.subscribe.ensures.made
+    let h = c.subscribe.ensures in
+    subscribes_after g.L.Hall.limits c.subscribe.result c.args.tables c.args.start _ _ _ _ _ _ h.others h.held h.log h.seen h.own
+    h.made

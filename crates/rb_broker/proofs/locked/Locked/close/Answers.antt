@@ -1,11 +1,15 @@
-use Rattle.std.proofs.Common.{◌∙◌, ◌++◌, ℕ, List, length, Some, sym, ap, arith}
+use Rattle.std.proofs.Common.{◌∙◌, ◌++◌, ◌∷◌, [], ℕ, List, length, Option, Some, sym, ap, arith}
 use Rattle.std.proofs.lemmas.List.{append-nil}
 use Rattle.rb_desk.specs.declared.step.Step.{Step}
-use Rattle.rb_desk.specs.Journaled.{counted_steps, is_own}
+use Rattle.rb_desk.specs.declared.step.Step.TheVariants.{Close}
+use Rattle.rb_desk.specs.Journaled.{JournaledPicture, closing_steps, counted_steps, is_own}
 use Rattle.rb_desk.specs.Picture.{Picture}
+use Rattle.rb_history.specs.declared.chronicle.Chronicle.{Chronicle}
 use Rattle.rb_sequence.specs.Cells.{Cells, LastToken}
-use Rattle.rb_broker.proofs.HoldLaws.{closing_counts, none_shown, some_shown}
+use Rattle.rb_subscriber.specs.Owner.{desk_after, steps_made}
+use Rattle.rb_broker.proofs.HoldLaws.{GrowsBy, closing_counts, logged, named_still, none_shown, some_shown}
 use Rattle.rb_broker.proofs.PlaceLaws.{closed_again, closes_at_front}
+use Rattle.rb_broker.proofs.StepLaws.{as_replayed, steps_snoc}
 use Rattle.rb_broker.proofs.locked.Locked.close.Goals as goal
 
 -- it is closed already
@@ -30,6 +34,8 @@ invariant_of-self g c = record {
   all = c.args.self.now.all;
   total = c.args.self.now.total;
   made = c.args.self.now.made;
+  name = ap (λ (h : Chronicle Step). h.name) c.catch_up.ensures.same ∙ c.args.self.now.name;
+  replays = c.args.self.now.replays ∙ ap (λ (h : Chronicle Step). desk_after g.L.Hall.limits h.log) (sym c.catch_up.ensures.same);
 }
 
 -- the closing cell shows the front, which is the closing number now
@@ -45,6 +51,8 @@ invariant_of-self-2 g c =
     let shown = ap (λ (t : LastToken). t.last) c.again-2.ensures ∙ c.in-Ok.ensures.ok.1 ∙ c.front.ensures in
     let at_front = closes_at_front p open_ in
     let counts = closing_counts old.desk p.closing (λ desk x q. c.steps_are_counted.ensures.own desk x q) in
+    let grows : GrowsBy c.catch_up.new.self.number Close old.history c.catch_up.new.all c.append.new.all =
+    record { same = c.catch_up.ensures.same; named = c.append.ensures.name; log = c.append.ensures.log } in
     let steps = ap (λ (xs : List Step). counted_steps is_own xs) c.close.ensures.steps in
     record {
       limits = ap (λ (x : ℕ × Picture). x.1.limits) (sym answer) ∙ keeps.0 ∙ old.limits;
@@ -58,6 +66,12 @@ invariant_of-self-2 g c =
       all = old.all;
       total = omega (arith, old.total, counts, steps);
       made = old.made ∙ sym (ap (λ (x : ℕ × Picture). length x.1.subscriptions) (sym answer) ∙ keeps.1);
+      name = named_still grows old.name;
+      replays = as_replayed g.L.Hall.limits new c.append.new.all.log
+          (c.close.ensures.steps ∙ ap (λ (o : Option ℕ). old.desk.steps ++ closing_steps o) (sym open_)
+          ∙ ap (λ (d : JournaledPicture). d.steps ++ Close ∷ []) old.replays
+          ∙ sym (steps_snoc old.history.log (c.catch_up.new.self.number, Close)) ∙ ap steps_made (sym (logged grows)))
+          (ap (λ (x : ℕ × Picture). x.1.limits) (sym answer) ∙ keeps.0 ∙ old.limits) c.steps-closed.ensures.replay;
     }
 
 pub returns-clause-closed : goal.returns-clause-closed

@@ -3,7 +3,8 @@ use Rattle.rb_desk.specs.Calls.{subscribe}
 use Rattle.rb_desk.specs.Journaled.{JournaledPicture, counted_steps, is_own}
 use Rattle.rb_desk.specs.declared.step.Step.TheVariants.{Subscribe}
 use Rattle.rb_subscriber.specs.Register.{RegisterState}
-use Rattle.rb_broker.proofs.HoldLaws.{answered}
+use Rattle.rb_broker.proofs.HoldLaws.{GrowsBy, answered, logged, named_still}
+use Rattle.rb_broker.proofs.StepLaws.{one_step_on}
 use Rattle.rb_broker.proofs.locked.Locked.subscribe.Goals as goal
 
 -- the desk made fewer than 1,024
@@ -27,6 +28,8 @@ invariant_of-self g c =
     let counted = ap (λ (d : JournaledPicture). counted_steps is_own d.steps) step in
     let total = ap (λ (r : RegisterState). r.total) c.subscribe-in-Ok.ensures.made in
     let made = ap (λ (r : RegisterState). r.made) c.subscribe-in-Ok.ensures.made in
+    let grows : GrowsBy c.catch_up.new.self.number (Subscribe c.args.start) old.history c.catch_up.new.all c.enroll-own.new.all =
+    record { same = c.catch_up.ensures.same; named = c.enroll-own.ensures.name; log = c.enroll-own.ensures.log } in
     let length_is = ap (λ (d : JournaledPicture). length d.picture.subscriptions) step in
     record {
       limits = ap (λ (d : JournaledPicture). d.picture.limits) step ∙ others.0 ∙ old.limits;
@@ -39,4 +42,8 @@ invariant_of-self g c =
       all = old.all;
       total = omega (arith, total, old.total, counts, counted);
       made = omega (arith, made, old.made, fits.2, length_is);
+      name = named_still grows old.name;
+      replays = one_step_on g.L.Hall.limits old.desk c.subscribe.new.self (Subscribe c.args.start)
+          (subscribe old.desk.picture c.args.start).1 old.history.log c.enroll-own.new.all.log c.catch_up.new.self.number
+          old.replays step others.0 c.steps-steps.ensures.replay (logged grows);
     }

@@ -1,9 +1,11 @@
 use Rattle.std.proofs.Common.{refl}
-use Rattle.rb_broker.proofs.HoldLaws.{other_call_holds}
+use Rattle.rb_broker.proofs.HoldLaws.{other_step_holds}
 use Rattle.rb_broker.proofs.locked.Locked.take_any.Goals as goal
 
-pub invariant_of-self : goal.invariant_of-self
-invariant_of-self g c =
+pub invariant_of-self-2 : goal.invariant_of-self-2
+invariant_of-self-2 g c =
     let old = c.args.self.now in
-    other_call_holds old.desk _ _ _ _ _ c.steps_are_counted.ensures.own (c.only_subscribe_and_close.ensures.take_any _ _)
-    c.take_any.ensures refl old.limits old.fits old.fills old.closes old.all old.total old.made
+    other_step_holds old.desk _ _ c.steps_are_counted.ensures.own (c.only_subscribe_and_close.ensures.take_any _ _)
+    c.in_ok-delivery.ensures.1 refl old.limits old.fits old.fills old.closes old.all old.total old.made old.name
+    old.replays c.steps-steps.ensures.replay
+    (record { same = c.catch_up.ensures.same; named = c.append.ensures.name; log = c.append.ensures.log })

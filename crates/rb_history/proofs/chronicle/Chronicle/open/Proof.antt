@@ -35,12 +35,14 @@ open_spec 𝓤 𝓛 𝓜 𝓡 wired T L =
     enter ! 𝓣.C 𝓣.Λ fn [] Post $ alloc_all ! (λ l. pass_all ! refl tt $
     use0 𝓛 (later (some (λ (η : ℕ × ℕ). ‵ (whole_owns T.coded.code η [])))) (steps.begins 𝓛 T.coded) $ await ! tt $ pick ! (λ η.
     use1 𝓛 (later (some (λ (k : ℕ). given (count_under {E = T.Denot} k [] ≡ 0) (‵ (whole_owns T.coded.code η []) ⊛ ‵ (hand_owns η k 0))))) (steps.enrolls 𝓛 T.coded η []) $ await ! tt $ pick ! (λ k. learn ! (λ none. split ! $
-    let r : S.Denot = record { marker = record {}; name = η; log = [] } in let h : F.Denot = record { marker = record {}; name = η; number = k; made = 0 } in
-    let v : Val = vstruct (vcons token (vcons token vnil)) in let Rs : List RattleType = S ∷ F ∷ [] in let Told : Type 0 = (r.log ≡ r.log) × (h.name ≡ h.name) × (h.made ≡ h.made) in
-    sets ! (agg ! (no_more !)) refl (tt, tt) $ sets ! (agg ! (and_then ! (get ! refl) (no_more !))) refl (tt, (tt, tt)) $ sets ! (agg ! (no_more !)) refl (tt, tt) $ sets ! (agg ! (and_then ! (get ! refl) (no_more !))) refl (tt, (tt, tt)) $
-    sets ! (agg ! (and_then ! (get ! refl) (and_then ! (get ! refl) (no_more !)))) refl (tt, ((tt, tt), ((tt, tt), tt))) $
+    use1 𝓛 (later (some (λ (n : ℕ). given (count_under {E = T.Denot} n [] ≡ 0) (‵ (whole_owns T.coded.code η []) ⊛ ‵ (hand_owns η n 0))))) (steps.enrolls 𝓛 T.coded η []) $ await ! tt $ pick ! (λ n. learn ! (λ none2. split ! $
+    let r : S.Denot = record { marker = record {}; name = η; log = [] } in let h : F.Denot = record { marker = record {}; name = η; number = k; made = 0 } in let h2 : F.Denot = record { marker = record {}; name = η; number = n; made = 0 } in
+    let v : Val = vstruct (vcons token (vcons token (vcons token vnil))) in let Rs : List RattleType = S ∷ F ∷ F ∷ [] in let Told : Type 0 = (r.log ≡ r.log) × (h.name ≡ h.name) × (h.made ≡ h.made) × (h2.name ≡ h2.name) × (h2.made ≡ h2.made) in
+    sets ! (agg ! (no_more !)) refl (tt, tt) $ sets ! (agg ! (and_then ! (get ! refl) (no_more !))) refl (tt, (tt, tt)) $ sets ! (agg ! (no_more !)) refl (tt, tt) $ sets ! (agg ! (and_then ! (get ! refl) (no_more !))) refl (tt, (tt, tt)) $ sets ! (agg ! (no_more !)) refl (tt, tt) $ sets ! (agg ! (and_then ! (get ! refl) (no_more !))) refl (tt, (tt, tt)) $
+    sets ! (agg ! (and_then ! (get ! refl) (and_then ! (get ! refl) (and_then ! (get ! refl) (no_more !))))) refl (tt, ((tt, tt), ((tt, tt), ((tt, tt), tt)))) $
     use0 𝓛 (‵ ((Token R).own_val (record {}, tt) (token ∷ []))) (token_made R 𝓛) $ fjoin ! $ use0 𝓛 (‵ ((Token R).own_val (record {}, tt) (token ∷ []))) (token_made R 𝓛) $ move ! (0 ∷ 2 ∷ []) $ fjoin ! $
-    nothing ! $ move ! (1 ∷ 0 ∷ []) $ fjoin ! $ move ! (1 ∷ 0 ∷ []) $ fjoin ! $ feq_i ! (List Val) (v ∷ []) (v ∷ []) refl $ fjoin ! $
-    fpack ! (Valss Rs) (λ vss. fsep (feq (List Val) (v ∷ []) (vstruct (of_list (vss.0 ++ (vss.1.0 ++ []))) ∷ [])) (owns Rs (r, (h, tt)) vss)) (token ∷ [], (token ∷ [], tt)) $
-    use0 𝓛 (raw (fact 𝓤 Told)) (fact_i 𝓤 Told (emp 𝓤) (refl, refl, refl)) $ nothing ! $
-    returns ! (look_at ! 0 refl) $ free_all ! refl $ keep ! (3 ∷ 0 ∷ 2 ∷ 1 ∷ []) $ by ! (leaves 𝓛 En tt c y v (r, h) tt tt))))))
+    use0 𝓛 (‵ ((Token R).own_val (record {}, tt) (token ∷ []))) (token_made R 𝓛) $ move ! (0 ∷ 3 ∷ []) $ fjoin ! $
+    nothing ! $ move ! (2 ∷ 0 ∷ []) $ fjoin ! $ move ! (1 ∷ 0 ∷ []) $ fjoin ! $ move ! (1 ∷ 0 ∷ []) $ fjoin ! $ feq_i ! (List Val) (v ∷ []) (v ∷ []) refl $ fjoin ! $
+    fpack ! (Valss Rs) (λ vss. fsep (feq (List Val) (v ∷ []) (vstruct (of_list (vss.0 ++ (vss.1.0 ++ (vss.1.1.0 ++ [])))) ∷ [])) (owns Rs (r, (h, (h2, tt))) vss)) (token ∷ [], (token ∷ [], (token ∷ [], tt))) $
+    use0 𝓛 (raw (fact 𝓤 Told)) (fact_i 𝓤 Told (emp 𝓤) (refl, refl, refl, refl, refl)) $ nothing ! $
+    returns ! (look_at ! 0 refl) $ free_all ! refl $ keep ! (3 ∷ 0 ∷ 2 ∷ 1 ∷ []) $ by ! (leaves 𝓛 En tt c y v (r, h, h2) tt tt))))))))

@@ -19,9 +19,9 @@ returns-in_err-shown-clause-answers g c =
     let schema = c.schema-schema.ensures.same ∙ ap (λ (t : TableState). t.schema) c.tables.ensures
     ∙ ap (λ (x : SubscriptionState). x.tables.schema) c.self.view_is in
     looked_result g.L.StepLedger.cells c.args.sequence.now c.args.delivery.now c.schema-schema.result.now old
-    (state_of s.sub s.steps s.base.value s.batches.list s.pending s.end c.tokens_of.new.told.items) c.from_residual.result
+    (state_of s.stake s.sub s.steps s.base.value s.batches.list s.pending s.end c.tokens_of.new.told.items) c.from_residual.result
     c.in_err-shown.field-0.0 (p.1 ∙ ap (λ (e : SubscriptionError). Err e) p.2) c.requires.cells schema c.requires.free
-    (ap (state_of s.sub s.steps s.base.value s.batches.list s.pending s.end) c.tokens_of.ensures.same ∙ c.self.view_is) c.in_err-shown.ensures.err
+    (ap (state_of s.stake s.sub s.steps s.base.value s.batches.list s.pending s.end) c.tokens_of.ensures.same ∙ c.self.view_is) c.in_err-shown.ensures.err
 
 pub invariant_of-entries : goal.invariant_of-entries
 invariant_of-entries g c = record {
@@ -62,7 +62,7 @@ pub returns-in-Ok-clause-answers : goal.returns-in-Ok-clause-answers
 returns-in-Ok-clause-answers g c =
     let s = c.self.inside in
     rw (← c.self.view_is)
-    (due_ok g.L.StepLedger.cells c.args.delivery.now s.sub s.steps c.in-Ok.cursor s.base.value s.batches.list _ s.pending
+    (due_ok g.L.StepLedger.cells c.args.delivery.now s.stake s.sub s.steps c.in-Ok.cursor s.base.value s.batches.list _ s.pending
     s.told.items
     c.add.new.told.items c.in_ok-shown.shown.items s.end c.accept_brought.new.self (accepted g c) c.self.invariant.0
     c.self.invariant.3 c.in-Ok.ensures.answers.1 c.with.ensures)

@@ -35,12 +35,12 @@ returns-in_err-shown-clause-answers g c =
     let schema = c.schema-schema.ensures.same ∙ ap (λ (t : TableState). t.schema) c.tables.ensures
     ∙ ap (λ (x : SubscriptionState). x.tables.schema) c.self.view_is in
     let why = c.in_err-shown.field-0.0 in
-    let new = state_of s.sub s.steps s.base.value s.batches.list s.pending s.end c.tokens_of.new.told.items in
+    let new = state_of s.stake s.sub s.steps s.base.value s.batches.list s.pending s.end c.tokens_of.new.told.items in
     durable_free cells d c.from_residual.result old new c.in_default.ensures.why
     (subst (λ r. KeptAnswers cells d r old new) (sym (p.1 ∙ ap (λ (e : DurableError _). Err e) p.2))
     (looked_result cells c.args.sequence.now d c.schema-schema.result.now old new (Err why) why refl c.requires.cells schema
     (sym c.in_default.ensures.why)
-    (ap (state_of s.sub s.steps s.base.value s.batches.list s.pending s.end) c.tokens_of.ensures.same ∙ c.self.view_is)
+    (ap (state_of s.stake s.sub s.steps s.base.value s.batches.list s.pending s.end) c.tokens_of.ensures.same ∙ c.self.view_is)
     c.in_err-shown.ensures.err))
 
 pub invariant_of-entries : goal.invariant_of-entries
@@ -81,9 +81,9 @@ pub returns-in-Ok-clause-answers : goal.returns-in-Ok-clause-answers
 returns-in-Ok-clause-answers g c =
     let s = c.self.inside in
     durable_free g.L.StepLedger.cells c.args.delivery.now (Ok c.in-Ok.cursor) c.args.self.now
-    (state_of s.sub s.steps s.base.value c.with.result.list s.pending c.accept_kept.new.self c.add.new.told.items) c.in_default.ensures.why
+    (state_of s.stake s.sub s.steps s.base.value c.with.result.list s.pending c.accept_kept.new.self c.add.new.told.items) c.in_default.ensures.why
     (rw (← c.self.view_is)
-    (due_ok g.L.StepLedger.cells c.args.delivery.now s.sub s.steps c.in-Ok.cursor s.base.value s.batches.list _ s.pending
+    (due_ok g.L.StepLedger.cells c.args.delivery.now s.stake s.sub s.steps c.in-Ok.cursor s.base.value s.batches.list _ s.pending
     s.told.items
     c.add.new.told.items c.in_ok-shown.shown.items s.end c.accept_kept.new.self (accepted g c) c.self.invariant.0
     c.self.invariant.3 c.in-Ok.ensures.answers.1 c.with.ensures))
@@ -99,8 +99,8 @@ returns-in-Err-Refused-clause-answers g c =
     let back = shown.Held c.in_ok-shown.shown in
     durable_free g.L.StepLedger.cells c.args.delivery.now (Err (durable.Accept (RefusedEntries c.in-Err-Refused.why back)))
     c.args.self.now
-    (state_of s.sub s.steps s.base.value s.batches.list s.pending c.accept_kept.new.self c.tokens_of.new.told.items) c.in_default.ensures.why
-    (refused_kept g.L.StepLedger.cells c.args.sequence.now c.args.delivery.now s.sub s.steps s.base.value s.batches.list
+    (state_of s.stake s.sub s.steps s.base.value s.batches.list s.pending c.accept_kept.new.self c.tokens_of.new.told.items) c.in_default.ensures.why
+    (refused_kept g.L.StepLedger.cells c.args.sequence.now c.args.delivery.now s.stake s.sub s.steps s.base.value s.batches.list
     s.pending s.told.items
     c.tokens_of.new.told.items back _ s.end c.accept_kept.new.self _ c.in-Err-Refused.why
     c.args.self.now c.self.view_is c.tokens_of.ensures.same c.self.invariant.0 c.self.invariant.3
@@ -168,9 +168,9 @@ returns-in-Err-Store-clause-answers g c =
     let falls = subst (λ (x : KeepError _). KeepAnswers (Err x) (accept_brought s.end (entries_told c.deref.result.now) d)
     s.end c.accept_kept.new.self) c.in-Err-Store.field-0-is c.in-Err-Store.ensures.answers in
     durable_free cells d (Err (durable.Store c.in-Err-Store.why)) c.args.self.now
-    (state_of s.sub s.steps s.base.value s.batches.list (Some (record { tokens = shown; changes = planned_changes c.in-Err-Store.plan }))
+    (state_of s.stake s.sub s.steps s.base.value s.batches.list (Some (record { tokens = shown; changes = planned_changes c.in-Err-Store.plan }))
     c.accept_kept.new.self c.tokens_of.new.told.items) c.in_default.ensures.why
-    (it_falls cells d s.sub s.steps s.base.value s.batches.list s.pending s.told.items c.tokens_of.new.told.items shown
+    (it_falls cells d s.stake s.sub s.steps s.base.value s.batches.list s.pending s.told.items c.tokens_of.new.told.items shown
     (planned_changes c.in-Err-Store.plan) s.end c.accept_kept.new.self falls.after c.args.self.now c.self.view_is
     c.tokens_of.ensures.same inv.0 inv.3 are
     (subst (λ es. accept_brought s.end es d ≡ Ok falls.after) (ap entries_told c.deref.ensures.value) falls.accepts)
