@@ -61,8 +61,8 @@ pub record ReturnsAfter {A : Type 0} (limits : Limits) (result : Result A DeskEr
       (desk_after limits (old.seen ++ others)) (desk_after limits new.seen)
   pub seen : new ≡ has_seen old ((old.seen ++ others) ++ own_step result old.number step)
 
--- What a call through the lock returns is what the desk returns after the history that its owner had
--- seen and the steps that others made since. It makes no other step than its own.
+-- What a call through the lock returns is what the desk returns after the history that its owner
+-- had seen and the steps that others made since. It makes no other step than its own.
 abbrev pub DeskReturns : {A : Type 0} → Limits → Result A DeskError
     → (Picture → Result A DeskRefusal × Picture) → Step → Owner → Owner → Type 0
 DeskReturns limits result call step old new = (others : List (ℕ × Step))

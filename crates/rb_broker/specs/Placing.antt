@@ -120,9 +120,9 @@ abbrev pub closing_step : Option LastToken → ℕ → Option ℕ → List (ℕ 
 closing_step (Some told) number closing = map (λ step. (number, step)) (closing_steps closing)
 closing_step None number closing = []
 
--- The desk closes after the history that the owner had seen and the steps that others made since, and
--- this is its last number: its front, or the closing number that it has. The close is the owner's
--- one step; a second one is none.
+-- The desk closes after the history that the owner had seen and the steps that others made since,
+-- and this is its last number: its front, or the closing number that it has. The close is the
+-- owner's one step; a second one is none.
 pub record ClosesAfter (limits : Limits) (told : LastToken) (old new : Owner)
     (others : List (ℕ × Step)) : Type 0 where
   pub apart : count_under old.number others ≡ 0

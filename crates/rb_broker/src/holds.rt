@@ -1,5 +1,5 @@
-//! What one hold of the broker's lock does for subscriptions: the desk's call, the count of the step,
-//! and its place in the history.
+//! What one hold of the broker's lock does for subscriptions: the desk's call, the count of the
+//! step, and its place in the history.
 
 ghost use Rattle.std.specs.Prelude.{◌≡◌, ◌+◌, ◌++◌, ◌∷◌, [], ◌<◌, ◌^◌, Err, IfErr, IfOk, Ok, OnErr};
 ghost use Rattle.std.specs.Prelude.{OnOk};

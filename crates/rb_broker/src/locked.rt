@@ -20,10 +20,10 @@ use rb_sequence::{AlreadySet, Entry, Filler, Ready, Told, ToldLast};
 use rb_subscriber::{Register, Stake};
 
 /// The desk of a broker, the filler of its sequence, the register of its subscriptions, and the
-/// history. The desk has the broker's limits, and their capacity is the sequence's. The register has
-/// counted the steps that the desk's journal has of the subscriptions' own, and made as many
-/// subscriptions as the desk. The history has the journal's steps, each with its owner's number, and
-/// the desk is what they lead to.
+/// history. The desk has the broker's limits, and their capacity is the sequence's. The register
+/// has counted the steps that the desk's journal has of the subscriptions' own, and made as many
+/// subscriptions as the desk. The history has the journal's steps, each with its owner's number,
+/// and the desk is what they lead to.
 #[derive(Drop)]
 pub(crate) struct Locked<L: Hall> {
     pub(crate) desk: Desk,
@@ -123,8 +123,8 @@ impl<L: Hall> Locked<L> {
         }
     }
 
-    /// Sets the closing cell and closes the desk, unless it is closed: a step of the keeper. Returns
-    /// `None` if the cell is set already. Does not allocate.
+    /// Sets the closing cell and closes the desk, unless it is closed: a step of the keeper.
+    /// Returns `None` if the cell is set already. Does not allocate.
     pub(crate) fn close(&mut self, keeper: &mut Stake<L>) -> Option<ToldLast>
         ensures closed { ClosesBoth result L.cells self.old.desk self.new.desk }
         ensures held { AreReplays L.limits self.old.desk self.old.history.log self.new.desk

@@ -12,8 +12,8 @@ use rb_history::{Chronicle, Front, Hand};
 use std::marker::{Model, PhantomData};
 
 /// What an owner holds of its broker's history: the right to make steps under its own number, and
-/// what it has seen. It has no byte, and its calls do nothing when the program runs: by it contracts
-/// relate the calls of threads. Only who has the history, a broker's lock, can add to it.
+/// what it has seen. Contracts relate the calls of threads by it. It takes no memory, and its calls
+/// do nothing when the program runs. Only a broker's lock has the history, so only it can add steps.
 #[derive(Drop)]
 pub struct Stake<L: StepLedger> {
     hand: Hand<Step>,

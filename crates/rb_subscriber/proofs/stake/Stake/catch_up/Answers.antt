@@ -1,4 +1,7 @@
-use Rattle.std.proofs.Common.{◌≡◌, ap, sym, ◌∙◌, subst}
+use Rattle.std.proofs.Common.{ap, sym, ◌∙◌, subst}
+use Rattle.rb_desk.specs.declared.step.Step.{Step}
+use Rattle.rb_history.specs.Kept.{count_under}
+use Rattle.rb_history.specs.declared.chronicle.Chronicle.{Chronicle}
 use Rattle.rb_subscriber.specs.Owner.{OthersSince, Owner}
 use Rattle.rb_subscriber.proofs.HistoryLaws.{others_since}
 use Rattle.rb_subscriber.proofs.stake.Stake.catch_up.Goals as goal
@@ -9,4 +12,4 @@ returns-clause-others g c =
     subst (λ (o : Owner). OthersSince o c.args.all.now.log) c.self.view_is
     (others_since (record { number = mine.hand.number; seen = mine.seen.log }) mine.hand.made c.args.all.now.log c.admit.ensures.1
     c.self.invariant.2
-    (ap (λ l. Rattle.rb_history.specs.Kept.count_under mine.hand.number l) (sym (ap (λ (x : Rattle.rb_history.specs.declared.chronicle.Chronicle.Chronicle Rattle.rb_desk.specs.declared.step.Step.Step). x.log) c.admit.ensures.0)) ∙ c.audit.ensures.2))
+    (ap (λ (all : Chronicle Step). count_under mine.hand.number all.log) (sym c.admit.ensures.0) ∙ c.audit.ensures.2))
