@@ -18,24 +18,23 @@ ghost use Rattle.rb_drive.specs.Published.{AreByNumber, unsent_lines};
 ghost use Rattle.rb_drive.specs.Run.{IsOfThreads};
 ghost use Rattle.rb_drive.specs.declared.fault.DriveFault.TheVariants.{Store};
 
-use crate::accepting::{Accepting, EndedSubscriber};
+use crate::accepting::EndedSubscriber;
+use crate::beginning::all_owners;
 use crate::closing::{Closable, all_closed};
 use crate::ending::SubscriberEnd;
 use crate::fault::DriveFault;
 use crate::input::Given;
-use crate::kept::KeptSubscription;
 use crate::owners::{Owners, run_all};
 use crate::publishing::{FaultyLine, Publishing};
 use crate::signs::Signs;
-use cs_apply::Tables;
 use cs_model::Schema;
-use rb_broker::{AddRefusal, Broker, Hall, Opened, Publisher, PublisherMaker, Started};
+use rb_broker::{Broker, Hall, Opened, Publisher, PublisherMaker, Started};
 use rb_close::laws::finished_keeps_headline;
 use rb_close::{FinishRefusal, Finished, finish, meet_sequencer};
 use rb_sequencer::Sequencer;
 use replica_store::Replica;
 use sqlite::Alter;
-use std::alloc::{AllocError, Global};
+use std::alloc::Global;
 use std::sync::{Arc, Wait};
 use std::thread::Threads;
 
@@ -76,6 +75,7 @@ pub fn drive<L: Hall + Send + Sync, S: Closable + Drop + Send, R: Threads + Wait
     requires sequence { (opened.limits ≡ L.limits) × (opened.cells ≡ L.cells) }
     requires queue { opened.queue ≡ L.queue }
     requires ledger { (opened.ledger ≡ L.name) × (L.parts ≡ 1024) × (L.all ≡ 1024) }
+    requires history { opened.history ≡ L.history }
     requires schema { arc_value plan.schema ≡ opened.schema }
     requires replica { IfSome plan.replica (λ r. KeepsRows (state S.Store r.conn) map.empty 0) }
     ensures ok { IfOk result (λ o. IsDriven L.cells (arc_value plan.schema)
@@ -117,6 +117,7 @@ fn drive_owners<L: Hall + Send + Sync, S: Closable + Drop + Send, R: Threads + W
     requires sequence { (opened.limits ≡ L.limits) × (opened.cells ≡ L.cells) }
     requires queue { opened.queue ≡ L.queue }
     requires ledger { (opened.ledger ≡ L.name) × (L.parts ≡ 1024) × (L.all ≡ 1024) }
+    requires history { opened.history ≡ L.history }
     requires schema { arc_value plan.schema ≡ opened.schema }
     requires replica { IfSome plan.replica (λ r. KeepsRows (state S.Store r.conn) map.empty 0) }
     ensures ok { IfOk result (λ o. IsDriven L.cells (arc_value plan.schema)
@@ -129,10 +130,12 @@ fn drive_owners<L: Hall + Send + Sync, S: Closable + Drop + Send, R: Threads + W
         sequencer,
         publishers: mut maker,
         auditor: _auditor,
+        placer,
+        keeper,
     } = Broker::<L>::start(opened);
-    let sequencer = Sequencer::new(alloc, sequencer);
+    let sequencer = Sequencer::new(alloc, sequencer, placer);
     let signs = Signs::new(plan.lines.len() as u64);
-    let Ok(owners) = all_owners(rt, alloc, &broker, &mut maker, sequencer, plan) else {
+    let Ok(owners) = all_owners(rt, alloc, &broker, &mut maker, sequencer, keeper, plan) else {
         return Err(DriveFault::Memory);
     };
     match run_all(rt, alloc, &broker, &signs, owners) {
@@ -149,114 +152,6 @@ fn why_stopped(signs: &Signs) -> DriveFault
         DriveFault::Store
     } else {
         DriveFault::Stopped
-    }
-}
-
-// all owners, before their threads begin
-fn all_owners<L: Hall, S: Alter + Drop, R: Wait>(
-    rt: &R,
-    alloc: Global,
-    broker: &Broker<L>,
-    maker: &mut PublisherMaker<L>,
-    sequencer: Sequencer<L>,
-    plan: Plan<S>,
-) -> Result<Owners<L, S>, AllocError>
-    requires schema { arc_value plan.schema ≡ arc_value broker.now.schema }
-    requires first { maker.old ≡ 0 }
-    requires replica { IfSome plan.replica (λ r. KeepsRows (state S.Store r.conn) map.empty 0) }
-    ensures lines { IfOk result (λ o.
-        map (λ one. publisher_lines one.publisher one.lines.items) o.publishing.items
-        ≡ numbered_lines 0 (arc_value plan.schema) (map (λ v. v.items) plan.lines.items)) }
-    ensures begun { IfOk result (λ o.
-        map (λ one. beginning_of one.subscription) o.accepting.items
-        ≡ replicate plan.subscribers (0, empty_tables (arc_value plan.schema))) }
-{
-    let Plan {
-        schema,
-        lines,
-        subscribers,
-        replica,
-    } = plan;
-    Ok(Owners {
-        publishing: publishers(alloc, broker, maker, lines)?,
-        sequencer,
-        accepting: all_subscribers(rt, alloc, broker, &schema, subscribers, replica)?,
-    })
-}
-
-// a publisher for each of these lists of lines
-fn publishers<L: Hall>(
-    alloc: Global,
-    broker: &Broker<L>,
-    maker: &mut PublisherMaker<L>,
-    lines: Vec<Vec<Given>>,
-) -> Result<Vec<Publishing<L>>, AllocError>
-    requires { maker.old ≡ 0 }
-    ensures { IfOk result (λ all.
-        map (λ one. publisher_lines one.publisher one.lines.items) all.items
-        ≡ numbered_lines 0 (arc_value broker.now.schema) (map (λ v. v.items) lines.items)) }
-{
-    let mut all = Vec::new(alloc);
-    for own in lines {
-        all.push(publisher(alloc, broker, maker, own)?)?;
-    }
-    Ok(all)
-}
-
-fn publisher<L: Hall>(
-    alloc: Global,
-    broker: &Broker<L>,
-    maker: &mut PublisherMaker<L>,
-    lines: Vec<Given>,
-) -> Result<Publishing<L>, AllocError>
-    ensures made { IfOk result (λ _. maker.new ≡ maker.old + 1) }
-    ensures lines { IfOk result (λ one. publisher_lines one.publisher one.lines.items
-        ≡ (maker.old, (arc_value broker.now.schema, lines.items))) }
-{
-    match maker.make(alloc, broker) {
-        Ok(publisher) => Ok(Publishing::new(alloc, publisher, lines)),
-        Err(AddRefusal::Memory) | Err(AddRefusal::TooMany) => Err(AllocError),
-    }
-}
-
-// so many subscribers, the first of them with the replica
-fn all_subscribers<L: Hall, S: Alter + Drop, R: Wait>(
-    rt: &R,
-    alloc: Global,
-    broker: &Broker<L>,
-    schema: &Arc<Schema>,
-    count: u64,
-    replica: Option<Replica<S>>,
-) -> Result<Vec<Accepting<L, S>>, AllocError>
-    requires { IfSome replica (λ r. KeepsRows (state S.Store r.conn) map.empty 0) }
-    ensures { IfOk result (λ all. map (λ one. beginning_of one.subscription) all.items
-        ≡ replicate count (0, empty_tables (arc_value schema.now))) }
-{
-    let mut all = Vec::new(alloc);
-    let mut replica = replica;
-    for _ in 0..count {
-        all.push(subscriber(rt, alloc, broker, schema, replica.take())?)?;
-    }
-    Ok(all)
-}
-
-// a subscriber with empty tables, after number 0
-fn subscriber<L: Hall, S: Alter + Drop, R: Wait>(
-    rt: &R,
-    alloc: Global,
-    broker: &Broker<L>,
-    schema: &Arc<Schema>,
-    replica: Option<Replica<S>>,
-) -> Result<Accepting<L, S>, AllocError>
-    requires { IfSome replica (λ r. KeepsRows (state S.Store r.conn) map.empty 0) }
-    ensures { IfOk result (λ one. beginning_of one.subscription
-        ≡ (0, empty_tables (arc_value schema.now))) }
-{
-    let kept = vec![in alloc; true; schema.tables().len()]?;
-    let tables = Tables::new(alloc, Arc::try_clone(schema)?, kept);
-    match broker.subscribe(rt, alloc, tables, 0) {
-        Ok(subscription) => Ok(Accepting::new(KeptSubscription::new(subscription, replica))),
-        Err(_) => Err(AllocError),
     }
 }
 
@@ -281,6 +176,7 @@ fn end<L: Hall, S: Closable + Drop, R: Wait>(
         publishing,
         sequencer,
         accepting,
+        ..
     } = back;
     let accepting = all_closed(alloc, accepting)?;
     if !all_ended(&sequencer, &accepting) {

@@ -6,6 +6,7 @@
 #![tactic(auto)]
 
 mod accepting;
+mod beginning;
 mod closing;
 mod drive;
 mod ending;

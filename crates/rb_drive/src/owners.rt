@@ -10,6 +10,7 @@ use crate::publishing::Publishing;
 use crate::signs::Signs;
 use rb_broker::{Broker, Hall};
 use rb_sequencer::Sequencer;
+use rb_subscriber::Stake;
 use sqlite::Alter;
 use std::alloc::Global;
 use std::snapshot::Snapshot;
@@ -17,11 +18,13 @@ use std::sync::Wait;
 use std::thread;
 use std::thread::{Promise, PromisedHandle, Threads};
 
-/// The owners: the publishers in the order of their numbers, the sequencer, and the subscribers.
+/// The owners: the publishers in the order of their numbers, the sequencer, with the stake of who
+/// closes the sequence, and the subscribers.
 #[derive(Drop)]
 pub struct Owners<L: Hall, S: Alter> {
     pub publishing: Vec<Publishing<L>>,
     pub sequencer: Sequencer<L>,
+    pub keeper: Stake<L>,
     pub accepting: Vec<Accepting<L, S>>,
 }
 
@@ -67,6 +70,7 @@ pub fn run_all<L: Hall + Send + Sync, S: Alter + Drop + Send, R: Threads + Wait 
     let Owners {
         publishing,
         sequencer,
+        keeper,
         accepting,
     } = owners;
     let back = thread::scope(
@@ -81,7 +85,9 @@ pub fn run_all<L: Hall + Send + Sync, S: Alter + Drop + Send, R: Threads + Wait 
                 map (λ one. beginning_of one.subscription) back.accepting.items
                 ≡ map (λ one. beginning_of one.subscription) accepting.items) }
         {
-            let Ok(placer) = scope.spawn(move || placed(rt, alloc, broker, signs, sequencer)) else {
+            let Ok(placer) = scope.spawn(move || placed(
+                rt, alloc, broker, signs, sequencer, keeper,
+            )) else {
                 signs.stop();
                 return None;
             };
@@ -115,12 +121,13 @@ pub fn run_all<L: Hall + Send + Sync, S: Alter + Drop + Send, R: Threads + Wait 
                     return None;
                 }
             }
-            let sequencer = placer.join(rt);
+            let (sequencer, keeper) = placer.join(rt);
             let publishing = join_publishers(rt, alloc, publishers)?;
             let accepting = join_subscribers(rt, alloc, subscribers)?;
             Some(Owners {
                 publishing,
                 sequencer,
+                keeper,
                 accepting,
             })
         },
@@ -189,12 +196,13 @@ fn placed<L: Hall, R: Wait>(
     broker: &Broker<L>,
     signs: &Signs,
     sequencer: Sequencer<L>,
-) -> Sequencer<L> {
-    let mut sequencer = sequencer;
-    if place(rt, alloc, broker, signs, &mut sequencer).is_err() {
+    keeper: Stake<L>,
+) -> (Sequencer<L>, Stake<L>) {
+    let (mut sequencer, mut keeper) = (sequencer, keeper);
+    if place(rt, alloc, broker, signs, &mut sequencer, &mut keeper).is_err() {
         signs.stop();
     }
-    sequencer
+    (sequencer, keeper)
 }
 
 // what a subscriber's thread does

@@ -3,6 +3,7 @@
 use crate::signs::Signs;
 use rb_broker::{Broker, Hall, PlaceRefusal};
 use rb_sequencer::{Sequencer, Turn};
+use rb_subscriber::Stake;
 use std::alloc::{AllocError, Global};
 use std::sync::Wait;
 
@@ -14,6 +15,7 @@ pub fn place<L: Hall, R: Wait>(
     broker: &Broker<L>,
     signs: &Signs,
     sequencer: &mut Sequencer<L>,
+    keeper: &mut Stake<L>,
 ) -> Result<(), AllocError> {
     let mut looks: u64 = 0;
     for _ in rt.forever() {
@@ -33,15 +35,15 @@ pub fn place<L: Hall, R: Wait>(
                 looks = looks.saturating_add(1);
             }
             Turn::Refused(PlaceRefusal::Memory) => return Err(AllocError),
-            Turn::Idle(_) | Turn::Refused(_) => return Ok(close(rt, broker, signs)),
+            Turn::Idle(_) | Turn::Refused(_) => return Ok(close(rt, broker, signs, keeper)),
         }
     }
     unreachable!()
 }
 
 // closes the sequence, and tells all who wait
-fn close<L: Hall, R: Wait>(rt: &R, broker: &Broker<L>, signs: &Signs) {
-    if broker.close(rt).is_none() {
+fn close<L: Hall, R: Wait>(rt: &R, broker: &Broker<L>, signs: &Signs, keeper: &mut Stake<L>) {
+    if broker.close(rt, keeper).is_none() {
         signs.stop();
     }
     signs.pulled.ring();

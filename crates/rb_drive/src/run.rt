@@ -164,6 +164,7 @@ where
     requires sequence { (opened.limits ≡ L.limits) × (opened.cells ≡ L.cells) }
     requires queue { opened.queue ≡ L.queue }
     requires ledger { (opened.ledger ≡ L.name) × (L.parts ≡ 1024) × (L.all ≡ 1024) }
+    requires history { opened.history ≡ L.history }
     requires schema { arc_value plan.schema ≡ opened.schema }
     requires replica { IfSome plan.replica (λ r. KeepsRows (state S.Store r.conn) map.empty 0) }
     ensures ends { ReportEnds L.cells plan.subscribers (arc_value plan.schema)

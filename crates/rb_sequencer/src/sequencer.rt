@@ -11,8 +11,9 @@ use crate::turn::Turn;
 use rb_broker::{Broker, Hall, PlaceRefusal, RefusedItem};
 use rb_intake::{NothingWaits, SequencerPass};
 use rb_sequence::{Item, Told};
+use rb_subscriber::Stake;
 use std::alloc::Global;
-use std::marker::{Model, PhantomData};
+use std::marker::Model;
 use std::sync::Wait;
 
 /// The sequencer of a broker. It is of one thread. A broker has one: there is one pass for it.
@@ -21,7 +22,7 @@ pub struct Sequencer<L: Hall> {
     pass: SequencerPass,
     hand: Option<Item>,
     told: Vec<Told>,
-    of: PhantomData<L>,
+    stake: Stake<L>,
 }
 
 impl<L: Hall> Model for Sequencer<L> {
@@ -36,6 +37,7 @@ impl<L: Hall> Model for Sequencer<L> {
       pulled = s.pass.pulled;
       placed = s.told.items;
       hand = s.hand;
+      owner = s.stake;
     } };
 
     ghost invariant = { λ s. (s.pass.queue ≡ L.queue)
@@ -46,16 +48,16 @@ impl<L: Hall> Model for Sequencer<L> {
 }
 
 impl<L: Hall> Sequencer<L> {
-    /// The sequencer of the broker that `Broker::start` made with this pass.
-    pub fn new(alloc: Global, pass: SequencerPass) -> Sequencer<L>
+    /// The sequencer of the broker that `Broker::start` made with this pass and this stake.
+    pub fn new(alloc: Global, pass: SequencerPass, stake: Stake<L>) -> Sequencer<L>
         requires { pass ≡ record { queue = L.queue; pulled = []; ended = [] } }
-        ensures { result ≡ record { pulled = []; placed = []; hand = None } }
+        ensures { result ≡ record { pulled = []; placed = []; hand = None; owner = stake } }
     {
         Sequencer {
             pass,
             hand: None,
             told: Vec::new(alloc),
-            of: PhantomData,
+            stake,
         }
     }
 
@@ -129,7 +131,7 @@ impl<L: Hall> Sequencer<L> {
         }
         let number = self.told.len() as u64 + 1;
         let item = self.hand.take().unwrap();
-        match broker.place_next(rt, alloc, &mut self.pass, item, number) {
+        match broker.place_next(rt, alloc, &mut self.pass, &mut self.stake, item, number) {
             Ok(told) => {
                 let shown = told.again();
                 self.told.push_reserved(told);

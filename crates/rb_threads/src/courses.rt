@@ -5,9 +5,9 @@ ghost use Rattle.std.specs.Prelude.{◌<◌, ◌≤◌};
 use par_apply::Open;
 use rb_broker::{Broker, Hall, TakeError};
 use rb_desk::{Delivery, DeskError, DeskRefusal};
-use rb_subscriber::{AcceptRefusal, Subscription, SubscriptionError, Workers};
+use rb_subscriber::{AcceptRefusal, Stake, Subscription, SubscriptionError, Workers};
 use std::alloc::Global;
-use std::sync::Wait;
+use std::sync::{Mutex, Wait};
 use std::thread;
 use std::thread::Threads;
 
@@ -36,6 +36,7 @@ pub(crate) fn accept_all<L: Hall, R: Threads + Wait + Sync>(
     rt: &R,
     alloc: Global,
     broker: &Broker<L>,
+    keeper: &Mutex<Stake<L>>,
     subscription: &mut Subscription<L>,
     course: &mut Course,
     last: u64,
@@ -48,7 +49,7 @@ pub(crate) fn accept_all<L: Hall, R: Threads + Wait + Sync>(
         let detour = course.next();
         held = match (detour, held) {
             (0, _) => reconnect(rt, alloc, broker, subscription)?,
-            (1, held) => expire(rt, alloc, broker, now, held)?,
+            (1, held) => expire(rt, alloc, broker, keeper, now, held)?,
             (2 | 3, Some(delivery)) => {
                 give_back(rt, alloc, broker, subscription, &delivery, detour == 3)?
             }
@@ -77,10 +78,12 @@ fn expire<L: Hall, R: Wait>(
     rt: &R,
     alloc: Global,
     broker: &Broker<L>,
+    keeper: &Mutex<Stake<L>>,
     now: u64,
     held: Option<Delivery>,
 ) -> Result<Option<Delivery>, &'static str> {
-    match broker.expire(rt, alloc, now) {
+    let mut keeper = keeper.lock(rt);
+    match broker.expire(rt, alloc, &mut keeper, now) {
         Ok(_) => Ok(held),
         Err(_) => Err("nothing can expire"),
     }

@@ -13,7 +13,7 @@ use rb_broker::{
 use rb_close::finish;
 use rb_desk::{Config, Delivery, DeskError, DeskRefusal};
 use rb_sequencer::{Sequencer, Turn};
-use rb_subscriber::{Subscription, SubscriptionError};
+use rb_subscriber::{Stake, Subscription, SubscriptionError};
 use std::alloc::Global;
 use std::io::Write;
 use std::marker::Brand;
@@ -45,6 +45,7 @@ fn replicate<R: Threads + Wait + Sync, W: Write>(
 struct Owners<L: Hall> {
     publisher: Publisher<L>,
     sequencer: Sequencer<L>,
+    keeper: Stake<L>,
     subscription: Subscription<L>,
 }
 
@@ -59,15 +60,18 @@ fn run<L: Hall + Send + Sync, R: Threads + Wait + Sync, W: Write>(
     requires sequence { (opened.limits ≡ L.limits) × (opened.cells ≡ L.cells) }
     requires queue { opened.queue ≡ L.queue }
     requires ledger { (opened.ledger ≡ L.name) × (L.parts ≡ 1024) × (L.all ≡ 1024) }
+    requires history { opened.history ≡ L.history }
 {
     let Started {
         broker,
         sequencer,
         publishers: mut maker,
+        placer,
+        keeper,
         ..
     } = Broker::<L>::start(opened);
-    let sequencer = Sequencer::new(alloc, sequencer);
-    let owners = all_owners(rt, alloc, &broker, &mut maker, sequencer, tables)?;
+    let sequencer = Sequencer::new(alloc, sequencer, placer);
+    let owners = all_owners(rt, alloc, &broker, &mut maker, keeper, sequencer, tables)?;
     let all_sent = AtomicBool::new(false);
     let owners = run_owners(rt, alloc, &broker, &all_sent, owners, changesets)?;
     let subscription = end(rt, alloc, broker, maker, owners)?;
@@ -79,14 +83,16 @@ fn all_owners<L: Hall, R: Wait>(
     alloc: Global,
     broker: &Broker<L>,
     maker: &mut PublisherMaker<L>,
+    mut keeper: Stake<L>,
     sequencer: Sequencer<L>,
     tables: Tables,
 ) -> Result<Owners<L>> {
     let publisher = maker.make(alloc, broker)?;
-    match broker.subscribe(rt, alloc, tables, 0) {
+    match broker.subscribe(rt, alloc, &mut keeper, tables, 0) {
         Ok(subscription) => Ok(Owners {
             publisher,
             sequencer,
+            keeper,
             subscription,
         }),
         Err(refused) => Err(refused.why.into()),
@@ -104,6 +110,7 @@ fn end<L: Hall, R: Wait>(
         publisher,
         sequencer,
         subscription,
+        ..
     } = owners;
     let publishers = vec![in alloc; publisher]?;
     let closing = broker.sequence().closing();
@@ -133,19 +140,21 @@ fn run_owners<L: Hall + Send + Sync, R: Threads + Wait + Sync>(
     let Owners {
         mut publisher,
         sequencer,
+        keeper,
         subscription,
     } = owners;
     thread::scope(thread::scope_env(), rt, |scope| {
-        let placing = scope.spawn(move || place(rt, alloc, broker, all_sent, sequencer))?;
+        let placing = scope.spawn(move || place(rt, alloc, broker, all_sent, sequencer, keeper))?;
         let accepting = scope.spawn(move || accept(rt, alloc, broker, subscription));
         let sent = publish(rt, alloc, broker, &mut publisher, changesets);
         all_sent.store(true, Ordering::SeqCst);
-        let sequencer = placing.join(rt);
+        let (sequencer, keeper) = placing.join(rt);
         let subscription = accepting?.join(rt)?;
         sent?;
         Ok(Owners {
             publisher,
             sequencer,
+            keeper,
             subscription,
         })
     })
@@ -193,7 +202,8 @@ fn place<L: Hall, R: Wait>(
     broker: &Broker<L>,
     all_sent: &AtomicBool,
     mut sequencer: Sequencer<L>,
-) -> Sequencer<L> {
+    mut keeper: Stake<L>,
+) -> (Sequencer<L>, Stake<L>) {
     for _ in 0..MOST_TURNS {
         // read before the turn: if all was sent, an idle turn is the last
         let is_last = all_sent.load(Ordering::SeqCst);
@@ -203,8 +213,8 @@ fn place<L: Hall, R: Wait>(
             Turn::Idle(_) | Turn::Refused(_) => break,
         }
     }
-    broker.close(rt);
-    sequencer
+    broker.close(rt, &mut keeper);
+    (sequencer, keeper)
 }
 
 // takes until all is drained

@@ -6,6 +6,7 @@ use crate::history::History;
 use rb_broker::{Hall, PlaceRefusal, Publisher, TakeError};
 use rb_close::{FinishRefusal, Finished, Unfinished, finish};
 use rb_sequence::Item;
+use rb_subscriber::Stake;
 use std::alloc::Global;
 use std::process::Abort;
 use std::sync::Wait;
@@ -35,10 +36,14 @@ pub fn finishes<L: Hall, R: Wait + Abort>(
     history: History<L>,
     left: &[(u64, u64)],
 ) -> Result<(), Fail> {
-    let (open, last) = without_one(unfinished(history))?;
+    let (all, mut keeper) = unfinished(history);
+    let (open, last) = without_one(all)?;
     let open = refused(rt, alloc, open, FinishRefusal::NotClosed)?;
     assert!(rt; open.broker.sequence().closing().is_none());
-    assert_eq!(rt; open.broker.close(rt).map(|told| told.last()), Some(1));
+    assert_eq!(rt;
+        open.broker.close(rt, &mut keeper).map(|told| told.last()),
+        Some(1)
+    );
     let one = refused(rt, alloc, open, FinishRefusal::Missing)?;
     match try_twice(rt, alloc, with_one(one, last)?) {
         Ok(finished) => has_left(rt, alloc, &finished, left),
@@ -46,21 +51,24 @@ pub fn finishes<L: Hall, R: Wait + Abort>(
     }
 }
 
-fn unfinished<L: Hall>(history: History<L>) -> Unfinished<L> {
+// its owners and its keeper
+fn unfinished<L: Hall>(history: History<L>) -> (Unfinished<L>, Stake<L>) {
     let History {
         broker,
         sequencer,
         maker,
+        keeper,
         publishers,
         ..
     } = history;
-    Unfinished {
+    let all = Unfinished {
         why: FinishRefusal::Missing,
         publishers,
         sequencer,
         maker,
         broker,
-    }
+    };
+    (all, keeper)
 }
 
 // without its last publisher

@@ -143,6 +143,7 @@ fn goes<L: Hall, R: Threads + Wait + Abort + Sync>(
     requires sequence { (opened.limits ≡ L.limits) × (opened.cells ≡ L.cells) }
     requires queue { opened.queue ≡ L.queue }
     requires ledger { (opened.ledger ≡ L.name) × (L.parts ≡ 1024) × (L.all ≡ 1024) }
+    requires history { opened.history ≡ L.history }
 {
     let mut history = History::<L>::start(alloc, opened)?;
     begins(rt, alloc, &mut history, scenario)?;

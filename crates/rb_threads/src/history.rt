@@ -11,7 +11,7 @@ use rb_broker::{
 };
 use rb_desk::{Delivery, DeskError, DeskRefusal};
 use rb_sequencer::Sequencer;
-use rb_subscriber::{AcceptRefusal, Auditor, Lost, Subscription};
+use rb_subscriber::{AcceptRefusal, Auditor, Lost, Stake, Subscription};
 use std::alloc::Global;
 use std::process::Abort;
 use std::sync::Wait;
@@ -84,6 +84,7 @@ pub struct History<L: Hall> {
     pub sequencer: Sequencer<L>,
     pub maker: PublisherMaker<L>,
     pub auditor: Auditor<L>,
+    pub keeper: Stake<L>,
     pub publishers: Vec<Publisher<L>>,
     pub subscriptions: Vec<Subscription<L>>,
     pub deliveries: Vec<Delivery>,
@@ -105,20 +106,24 @@ impl<L: Hall> History<L> {
         requires sequence { (opened.limits ≡ L.limits) × (opened.cells ≡ L.cells) }
         requires queue { opened.queue ≡ L.queue }
         requires ledger { (opened.ledger ≡ L.name) × (L.parts ≡ 1024) × (L.all ≡ 1024) }
+        requires history { opened.history ≡ L.history }
     {
         let Started {
             broker,
             sequencer,
             publishers: mut maker,
             auditor,
+            placer,
+            keeper,
         } = Broker::<L>::start(opened);
         let mut publishers = Vec::new(alloc);
         publishers.push(publisher(alloc, &mut maker, &broker)?)?;
         Ok(History {
             broker,
-            sequencer: Sequencer::new(alloc, sequencer),
+            sequencer: Sequencer::new(alloc, sequencer, placer),
             maker,
             auditor,
+            keeper,
             publishers,
             subscriptions: Vec::new(alloc),
             deliveries: Vec::new(alloc),

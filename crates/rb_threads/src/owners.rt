@@ -14,11 +14,11 @@ use rb_broker::{
 use rb_close::{meet, meet_sequencer};
 use rb_sequence::Sequence;
 use rb_sequencer::{Sequencer, Turn};
-use rb_subscriber::{Auditor, Missing, Subscription};
+use rb_subscriber::{Auditor, Missing, Stake, Subscription};
 use std::alloc::{AllocError, Global};
 use std::marker::Brand;
 use std::process::Abort;
-use std::sync::Wait;
+use std::sync::{Mutex, Wait};
 use std::test::Fail;
 use std::thread;
 use std::thread::Threads;
@@ -106,16 +106,27 @@ fn all_arrive<L: Hall + Send + Sync, R: Threads + Wait + Abort + Sync>(
     requires sequence { (opened.limits ≡ L.limits) × (opened.cells ≡ L.cells) }
     requires queue { opened.queue ≡ L.queue }
     requires ledger { (opened.ledger ≡ L.name) × (L.parts ≡ 1024) × (L.all ≡ 1024) }
+    requires history { opened.history ≡ L.history }
 {
     let Started {
         broker,
         sequencer,
         publishers: mut maker,
         mut auditor,
+        placer,
+        mut keeper,
     } = Broker::<L>::start(opened);
-    let sequencer = Sequencer::new(alloc, sequencer);
-    let owners = all_owners(rt, alloc, &broker, &mut maker, sequencer, load)?;
-    all_end(rt, alloc, &broker, &mut auditor, owners, load)
+    let sequencer = Sequencer::new(alloc, sequencer, placer);
+    let owners = all_owners(rt, alloc, &broker, &mut maker, &mut keeper, sequencer, load)?;
+    all_end(
+        rt,
+        alloc,
+        &broker,
+        &Mutex::new(keeper),
+        &mut auditor,
+        owners,
+        load,
+    )
 }
 
 fn all_owners<L: Hall, R: Wait>(
@@ -123,6 +134,7 @@ fn all_owners<L: Hall, R: Wait>(
     alloc: Global,
     broker: &Broker<L>,
     maker: &mut PublisherMaker<L>,
+    keeper: &mut Stake<L>,
     sequencer: Sequencer<L>,
     load: Load,
 ) -> Result<Vec<Owner<L>>, Fail> {
@@ -133,7 +145,7 @@ fn all_owners<L: Hall, R: Wait>(
         owners.push(Owner::Publishes(publisher(alloc, maker, broker)?))?;
     }
     for _ in 0..load.subscribers {
-        owners.push(subscriber(rt, alloc, broker)?)?;
+        owners.push(subscriber(rt, alloc, broker, keeper)?)?;
     }
     Ok(owners)
 }
@@ -143,11 +155,16 @@ fn all_end<L: Hall + Send + Sync, R: Threads + Wait + Abort + Sync>(
     rt: &R,
     alloc: Global,
     broker: &Broker<L>,
+    keeper: &Mutex<Stake<L>>,
     auditor: &mut Auditor<L>,
     owners: Vec<Owner<L>>,
     load: Load,
 ) -> Result<(), Fail> {
-    let done = thread::map_vec(rt, owners, &|owner| work(rt, alloc, broker, load, owner))?;
+    let done = thread::map_vec(
+        rt,
+        owners,
+        &|owner| work(rt, alloc, broker, keeper, load, owner),
+    )?;
     let (sequencers, subscriptions) = sorted_out(alloc, done)?;
     assert_eq!(rt; subscriptions.len() as u64, load.subscribers);
     let sequence = broker.sequence();
@@ -178,8 +195,9 @@ fn subscriber<L: Hall, R: Wait>(
     rt: &R,
     alloc: Global,
     broker: &Broker<L>,
+    keeper: &mut Stake<L>,
 ) -> Result<Owner<L>, Fail> {
-    match broker.subscribe(rt, alloc, empty_tables(alloc)?, 0) {
+    match broker.subscribe(rt, alloc, keeper, empty_tables(alloc)?, 0) {
         Ok(subscription) => Ok(Owner::Accepts(subscription)),
         Err(_) => Err(AllocError.into()),
     }
@@ -190,6 +208,7 @@ fn work<L: Hall, R: Threads + Wait + Abort + Sync>(
     rt: &R,
     alloc: Global,
     broker: &Broker<L>,
+    keeper: &Mutex<Stake<L>>,
     load: Load,
     owner: Owner<L>,
 ) -> Owner<L> {
@@ -202,7 +221,15 @@ fn work<L: Hall, R: Threads + Wait + Abort + Sync>(
             let mut course = Course {
                 state: subscription.sub(),
             };
-            accept_all(rt, alloc, broker, subscription, &mut course, load.all())
+            accept_all(
+                rt,
+                alloc,
+                broker,
+                keeper,
+                subscription,
+                &mut course,
+                load.all(),
+            )
         }
     };
     if let Err(why) = done {

@@ -12,6 +12,7 @@ use rb_broker::{
 };
 use rb_intake::SequencerPass;
 use rb_sequencer::Turn;
+use rb_subscriber::Stake;
 use std::alloc::{AllocError, Global};
 use std::marker::Brand;
 use std::process::Abort;
@@ -125,7 +126,7 @@ impl<L: Hall> History<L> {
     }
 
     fn close<R: Wait>(&mut self, rt: &R) -> Result<Said, Fail> {
-        let told = made(self.broker.close(rt))?;
+        let told = made(self.broker.close(rt, &mut self.keeper))?;
         Ok(Said::Closed(told.last()))
     }
 }
@@ -162,11 +163,13 @@ fn pulls_two<L: Hall, R: Wait + Abort>(rt: &R, alloc: Global, opened: Opened) ->
     requires sequence { (opened.limits ≡ L.limits) × (opened.cells ≡ L.cells) }
     requires queue { opened.queue ≡ L.queue }
     requires ledger { (opened.ledger ≡ L.name) × (L.parts ≡ 1024) × (L.all ≡ 1024) }
+    requires history { opened.history ≡ L.history }
 {
     let Started {
         broker,
         sequencer: mut pass,
         publishers: mut maker,
+        mut placer,
         ..
     } = Broker::<L>::start(opened);
     let mut publisher = publisher(alloc, &mut maker, &broker)?;
@@ -176,7 +179,7 @@ fn pulls_two<L: Hall, R: Wait + Abort>(rt: &R, alloc: Global, opened: Opened) ->
             return Err(Fail::new("four may wait"));
         }
     }
-    assert_eq!(rt; next_number(rt, alloc, &broker, &mut pass)?, 1);
+    assert_eq!(rt; next_number(rt, alloc, &broker, &mut pass, &mut placer)?, 1);
     Ok(())
 }
 
@@ -186,6 +189,7 @@ fn next_number<L: Hall, R: Wait>(
     alloc: Global,
     broker: &Broker<L>,
     pass: &mut SequencerPass,
+    placer: &mut Stake<L>,
 ) -> Result<u64, Fail>
     requires { pass.old ≡ record { queue = L.queue; pulled = []; ended = [] } }
 {
@@ -193,7 +197,7 @@ fn next_number<L: Hall, R: Wait>(
     let (Some(_), Ok(second)) = (first, broker.pull(rt, pass)) else {
         return Err(Fail::new("two wait"));
     };
-    match broker.place_next(rt, alloc, pass, second, 2) {
+    match broker.place_next(rt, alloc, pass, placer, second, 2) {
         Err(
             RefusedItem {
                 why: PlaceRefusal::Occupied(Occupied::Next(next)),

@@ -103,23 +103,23 @@ fn lives<L: Hall, S: Alter + Drop, R: Threads + Wait + Abort + Sync>(
     requires sequence { (opened.limits ≡ L.limits) × (opened.cells ≡ L.cells) }
     requires queue { opened.queue ≡ L.queue }
     requires ledger { (opened.ledger ≡ L.name) × (L.parts ≡ 1024) × (L.all ≡ 1024) }
+    requires history { opened.history ≡ L.history }
 {
     let mut history = History::<L>::start(alloc, opened)?;
     history.run(rt, alloc, SENT)?;
-    goes_on(rt, alloc, &history, conn, life)
+    goes_on(rt, alloc, &mut history, conn, life)
 }
 
 fn goes_on<L: Hall, S: Alter + Drop, R: Threads + Wait + Abort + Sync>(
     rt: &R,
     alloc: Global,
-    history: &History<L>,
+    history: &mut History<L>,
     conn: Connection<S>,
     life: &Life,
 ) -> Result<Connection<S>, Fail> {
     let (conn, tables, cursor) = loaded(alloc, conn)?;
-    let broker = &history.broker;
-    let mut subscription = subscribed(rt, alloc, broker, tables, cursor)?;
-    let conn = works(rt, alloc, broker, &mut subscription, conn, life)?;
+    let mut subscription = subscribed(rt, alloc, history, tables, cursor)?;
+    let conn = works(rt, alloc, &history.broker, &mut subscription, conn, life)?;
     let (conn, tables, cursor) = loaded(alloc, conn)?;
     assert_eq!(rt; cursor, life.cursor);
     has_rows(rt, alloc, history, &subscription, &tables, cursor)?;
@@ -129,11 +129,12 @@ fn goes_on<L: Hall, S: Alter + Drop, R: Threads + Wait + Abort + Sync>(
 fn subscribed<L: Hall, R: Wait>(
     rt: &R,
     alloc: Global,
-    broker: &Broker<L>,
+    history: &mut History<L>,
     tables: Tables,
     cursor: u64,
 ) -> Result<Subscription<L>, Fail> {
-    match broker.subscribe(rt, alloc, tables, cursor) {
+    let (broker, keeper) = (&history.broker, &mut history.keeper);
+    match broker.subscribe(rt, alloc, keeper, tables, cursor) {
         Ok(subscription) => Ok(subscription),
         Err(refused) => Err(refused.why.into()),
     }

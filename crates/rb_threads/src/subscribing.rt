@@ -33,7 +33,7 @@ impl<L: Hall> History<L> {
             "ack" => self.ack(rt, alloc, sub, delivery),
             "nack" => self.nack(rt, alloc, sub, delivery),
             "open" => self.nack_opened(rt, alloc, sub, delivery),
-            "expire" => Ok(match self.broker.expire(rt, alloc, a) {
+            "expire" => Ok(match self.broker.expire(rt, alloc, &mut self.keeper, a) {
                 Ok(many) => Said::Expired(many),
                 Err(error) => error.into(),
             }),
@@ -52,7 +52,10 @@ impl<L: Hall> History<L> {
     fn subscribe<R: Wait>(&mut self, rt: &R, alloc: Global, start: u64) -> Result<Said, Fail> {
         self.subscriptions.reserve(1)?;
         let tables = self.tables_at(alloc, start)?;
-        match self.broker.subscribe(rt, alloc, tables, start) {
+        match self
+            .broker
+            .subscribe(rt, alloc, &mut self.keeper, tables, start)
+        {
             Ok(subscription) => {
                 self.subscriptions.push_reserved(subscription);
                 Ok(Said::Made)
@@ -65,7 +68,10 @@ impl<L: Hall> History<L> {
     fn foreign<R: Wait>(&mut self, rt: &R, alloc: Global, start: u64) -> Result<Said, Fail> {
         let schema = Arc::new(alloc, Schema::empty(alloc))?;
         let tables = Tables::new(alloc, schema, Vec::new(alloc));
-        match self.broker.subscribe(rt, alloc, tables, start) {
+        match self
+            .broker
+            .subscribe(rt, alloc, &mut self.keeper, tables, start)
+        {
             Ok(_) => Ok(Said::Made),
             Err(refused) => Ok(unmade(&refused)),
         }
@@ -81,7 +87,7 @@ impl<L: Hall> History<L> {
     }
 
     fn take_any<R: Wait>(&mut self, rt: &R, alloc: Global, now: u64) -> Result<Said, Fail> {
-        match self.broker.take_any(rt, alloc, now) {
+        match self.broker.take_any(rt, alloc, &mut self.keeper, now) {
             Ok(delivery) => self.keep(delivery),
             Err(error) => Ok(error.into()),
         }
@@ -179,7 +185,7 @@ impl<L: Hall> History<L> {
     ) -> Result<Said, Fail> {
         let mut all: u64 = 0;
         for _ in 0..times {
-            match self.broker.expire(rt, alloc, now) {
+            match self.broker.expire(rt, alloc, &mut self.keeper, now) {
                 Ok(many) => all = all.wrapping_add(many),
                 Err(error) => return Ok(error.into()),
             }

@@ -157,6 +157,7 @@ fn tried_at<L: Hall, R: Wait + Threads + Sync>(
     requires sequence { (opened.limits ≡ L.limits) × (opened.cells ≡ L.cells) }
     requires queue { opened.queue ≡ L.queue }
     requires ledger { (opened.ledger ≡ L.name) × (L.parts ≡ 1024) × (L.all ≡ 1024) }
+    requires history { opened.history ≡ L.history }
 {
     let mut stand = Stand::of(alloc, Broker::<L>::start(opened))?;
     tried_over(rt, alloc, &mut stand, trial, operations, loss, commits)
@@ -182,7 +183,7 @@ fn tried_over<L: Hall, R: Wait + Threads + Sync>(
             let Some(conn) = crashed(alloc, conn, loss, trial.options())? else {
                 return Ok(Fate::Wrong);
             };
-            resume(rt, alloc, &stand.broker, lost, conn, commits)
+            resume(rt, alloc, stand, lost, conn, commits)
         }
     }
 }
@@ -213,7 +214,7 @@ fn accept_both<L: Hall, S: Alter + Drop, R: Wait + Threads + Sync>(
     let Ok(loaded) = load(alloc, replica) else {
         return Ok(Left::Early);
     };
-    let Some(kept) = subscribed(rt, alloc, &stand.broker, None, loaded) else {
+    let Some(kept) = subscribed(rt, alloc, stand, None, loaded) else {
         return Err(io::Error::other("there is no subscription"));
     };
     let Kept {
@@ -262,7 +263,7 @@ fn fall<L: Hall, S: Alter + Drop>(
 fn resume<L: Hall, S: Alter + Drop, R: Wait + Threads + Sync>(
     rt: &R,
     alloc: Global,
-    broker: &Broker<L>,
+    stand: &mut Stand<L>,
     lost: Lost<L>,
     conn: Connection<S>,
     commits: &Commits,
@@ -274,10 +275,10 @@ fn resume<L: Hall, S: Alter + Drop, R: Wait + Threads + Sync>(
         return Ok(Fate::Wrong);
     };
     let found = Found::of(alloc, &loaded.tables, loaded.cursor, commits)?;
-    let Some(kept) = subscribed(rt, alloc, broker, Some(lost), loaded) else {
+    let Some(kept) = subscribed(rt, alloc, stand, Some(lost), loaded) else {
         return Ok(Fate::Wrong);
     };
-    let Some(conn) = gone_on(rt, alloc, broker, kept)? else {
+    let Some(conn) = gone_on(rt, alloc, &stand.broker, kept)? else {
         return Ok(Fate::Wrong);
     };
     match Found::by(alloc, conn, commits)? {

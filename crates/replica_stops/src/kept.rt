@@ -9,6 +9,7 @@ ghost use Rattle.sqlite.specs.Held.{state};
 ghost use Rattle.sqlite.specs.State.{HasCleanDisk};
 
 use crate::rows::SECOND_CURSOR;
+use crate::stand::Stand;
 use cs_apply::Tables;
 use par_apply::Open;
 use rb_broker::{Broker, Hall, RefusedResume, ResumeError, TakeError};
@@ -76,7 +77,7 @@ pub fn load<S: Alter + Drop>(
 pub fn subscribed<L: Hall, S: Alter + Drop, R: Wait>(
     rt: &R,
     alloc: Global,
-    broker: &Broker<L>,
+    stand: &mut Stand<L>,
     lost: Option<Lost<L>>,
     loaded: Loaded<S>,
 ) -> Option<Kept<L, S>>
@@ -90,7 +91,8 @@ pub fn subscribed<L: Hall, S: Alter + Drop, R: Wait>(
         cursor,
     } = loaded;
     let Some(lost) = lost else {
-        let Ok(subscription) = broker.subscribe(rt, alloc, tables, cursor) else {
+        let (broker, keeper) = (&stand.broker, &mut stand.keeper);
+        let Ok(subscription) = broker.subscribe(rt, alloc, keeper, tables, cursor) else {
             return None;
         };
         return Kept::of(subscription, replica, cursor);
@@ -100,7 +102,7 @@ pub fn subscribed<L: Hall, S: Alter + Drop, R: Wait>(
     } else {
         lost.before()
     };
-    match broker.resume(rt, alloc, lost, tables, other) {
+    match stand.broker.resume(rt, alloc, lost, tables, other) {
         Err(
             RefusedResume {
                 why: ResumeError::OtherState,
@@ -108,7 +110,7 @@ pub fn subscribed<L: Hall, S: Alter + Drop, R: Wait>(
                 tables,
             },
         ) => {
-            let Ok(subscription) = broker.resume(rt, alloc, lost, tables, cursor) else {
+            let Ok(subscription) = stand.broker.resume(rt, alloc, lost, tables, cursor) else {
                 return None;
             };
             Kept::of(subscription, replica, cursor)

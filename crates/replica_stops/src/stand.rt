@@ -5,6 +5,7 @@ ghost use Rattle.std.specs.Prelude.{◌≡◌, [], IfOk};
 use rb_broker::{Broker, Hall, Publisher, StagedSet, Started};
 use rb_desk::Config;
 use rb_sequencer::{Sequencer, Turn};
+use rb_subscriber::Stake;
 use std::alloc::Global;
 use std::io;
 use std::sync::Wait;
@@ -13,6 +14,7 @@ use std::sync::Wait;
 #[derive(Drop)]
 pub struct Stand<L: Hall> {
     pub broker: Broker<L>,
+    pub keeper: Stake<L>,
     publisher: Publisher<L>,
     sequencer: Sequencer<L>,
 }
@@ -34,6 +36,8 @@ impl<L: Hall> Stand<L> {
             broker,
             sequencer,
             mut publishers,
+            placer,
+            keeper,
             ..
         } = started;
         let Ok(publisher) = publishers.make(alloc, &broker) else {
@@ -41,8 +45,9 @@ impl<L: Hall> Stand<L> {
         };
         Ok(Stand {
             broker,
+            keeper,
             publisher,
-            sequencer: Sequencer::new(alloc, sequencer),
+            sequencer: Sequencer::new(alloc, sequencer, placer),
         })
     }
 

@@ -7,7 +7,7 @@ use Rattle.rb_sequence.specs.Cells.{Cells}
 use Rattle.rb_broker.specs.Holding.{counted_step}
 use Rattle.rb_subscriber.specs.Accept.{refusal_before}
 use Rattle.rb_subscriber.specs.Durable.{DurableAnswers, Falls, KeptAnswers, durable_by}
-use Rattle.rb_subscriber.specs.Subscription.{SubscriptionState, cursor_of, new_subscription, own_endpoint}
+use Rattle.rb_subscriber.specs.Subscription.{SubscriptionState, cursor_of, new_subscription, own_endpoint, seen_by}
 use Rattle.rb_subscriber.specs.declared.refusal.AcceptRefusal.{AcceptRefusal}
 use Rattle.rb_subscriber.specs.declared.refusal.DurableError.{DurableError}
 use Rattle.rb_subscriber.specs.declared.refusal.DurableError.TheVariants as durable
@@ -48,15 +48,16 @@ still_kept K cells delivery (Err why) old new r0 r answers kept unasked before n
     let store : r ≡ r0 = unasked (ap (λ s. s.pending) same) in
     subst (λ x. K x new) (sym store) (subst (λ s. K r0 s) (sym same) (before free))
 
--- what holds of a subscription, whatever its count of steps, holds after a call of the broker
+-- what holds of a subscription, whatever its count of steps and whatever it has seen, holds after a call of the broker
 pub kept_by_call : {A E : Type 0} (P : SubscriptionState → Type 0) (result : Result A E) (old new : SubscriptionState)
-    → OnOk result (new ≡ counted_step old) → OnErr result (new ≡ old) → P (counted_step old) → P old → P new
+    → OnOk result (new ≡ counted_step (seen_by old new.owner)) → OnErr result (new ≡ seen_by old new.owner)
+    → P (counted_step (seen_by old new.owner)) → P (seen_by old new.owner) → P new
 kept_by_call P (Ok done) old new ok err counted same = subst P (sym ok) counted
 kept_by_call P (Err why) old new ok err counted same = subst P (sym err) same
 
 -- a new replica keeps a new subscription with empty tables
 pub new_is_kept : {R : Type 0} (replica : Option R) (st : R → State) (s : SubscriptionState) (tables : TableState)
-    → s ≡ new_subscription s.sub 0 s.link tables → tables.rows ≡ map.empty
+    → s ≡ new_subscription s.sub 0 s.link tables s.owner → tables.rows ≡ map.empty
     → IfSome replica (λ r. KeepsRows (st r) map.empty 0) → IfSome replica (λ r. KeepsSubscription (st r) s)
 new_is_kept None st s tables is empty new = tt
 new_is_kept (Some r) st s tables is empty new = λ free.

@@ -5,7 +5,7 @@ abbrev pub ghosts-goes-L-Ledger : goal.ghosts-goes-L-Ledger
 ghosts-goes-L-Ledger g a = record { name = a.opened.ledger; parts = 1024 }
 
 abbrev pub ghosts-goes-L-StepLedger : goal.ghosts-goes-L-StepLedger
-ghosts-goes-L-StepLedger g a = record { all = 1024; cells = a.opened.cells }
+ghosts-goes-L-StepLedger g a = record { all = 1024; cells = a.opened.cells; history = a.opened.history }
 
 abbrev pub ghosts-goes-L-Hall : goal.ghosts-goes-L-Hall
 ghosts-goes-L-Hall g a = record { limits = a.opened.limits; queue = a.opened.queue }

@@ -5,7 +5,7 @@ abbrev pub ghosts-lives-L-Ledger : goal.ghosts-lives-L-Ledger
 ghosts-lives-L-Ledger g a = record { name = a.opened.ledger; parts = 1024 }
 
 abbrev pub ghosts-lives-L-StepLedger : goal.ghosts-lives-L-StepLedger
-ghosts-lives-L-StepLedger g a = record { all = 1024; cells = a.opened.cells }
+ghosts-lives-L-StepLedger g a = record { all = 1024; cells = a.opened.cells; history = a.opened.history }
 
 abbrev pub ghosts-lives-L-Hall : goal.ghosts-lives-L-Hall
 ghosts-lives-L-Hall g a = record { limits = a.opened.limits; queue = a.opened.queue }

@@ -2,7 +2,7 @@ use Rattle.std.proofs.Common.{◌≡◌, ◌++◌, map}
 use Rattle.std.specs.Arc.{arc_value}
 use Rattle.std.specs.Vec.Iter.{into_iter_items}
 use Rattle.rb_drive.specs.Owners.{numbered_lines, publisher_lines}
-use Rattle.rb_drive.proofs.drive.publishers.Given as goal
+use Rattle.rb_drive.proofs.beginning.publishers.Given as goal
 
 -- the publishers that are made, and the lines for those that come
 abbrev pub invariant-loop-own : goal.invariant-loop-own

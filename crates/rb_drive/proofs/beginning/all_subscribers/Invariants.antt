@@ -5,7 +5,7 @@ use Rattle.sqlite.specs.Held.{state}
 use Rattle.replica_store.specs.Durable.{KeepsRows}
 use Rattle.rb_core.specs.State.{empty_tables}
 use Rattle.rb_drive.specs.Owners.{beginning_of}
-use Rattle.rb_drive.proofs.drive.all_subscribers.Given as goal
+use Rattle.rb_drive.proofs.beginning.all_subscribers.Given as goal
 
 -- so many are made, and the replica is new as long as no subscriber has it
 abbrev pub invariant-loop : goal.invariant-loop

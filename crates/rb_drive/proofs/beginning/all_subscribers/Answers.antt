@@ -6,7 +6,7 @@ use Rattle.replica_store.specs.Durable.{KeepsRows}
 use Rattle.rb_core.specs.State.{empty_tables}
 use Rattle.rb_drive.specs.Owners.{beginning_of}
 use Rattle.rb_drive.proofs.inputs.ListLaws.{made_one_more}
-use Rattle.rb_drive.proofs.drive.all_subscribers.Goals as goal
+use Rattle.rb_drive.proofs.beginning.all_subscribers.Goals as goal
 
 pub subscriber-requires : goal.subscriber-requires
 subscriber-requires g c =

@@ -1,7 +1,7 @@
 use Rattle.std.proofs.Common.{ap}
 use Rattle.sqlite.specs.Held.{state}
 use Rattle.rb_drive.proofs.outcomes.KeptLaws.{new_is_kept}
-use Rattle.rb_drive.proofs.drive.subscriber.Goals as goal
+use Rattle.rb_drive.proofs.beginning.subscriber.Goals as goal
 
 -- both are new
 pub new-requires : goal.new-requires
