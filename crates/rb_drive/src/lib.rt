@@ -17,6 +17,7 @@ pub mod laws;
 mod lines;
 mod owners;
 mod placing;
+mod progress;
 mod publishing;
 mod report;
 mod run;
@@ -24,4 +25,5 @@ mod signs;
 
 pub use closing::Closable;
 pub use fault::DriveFault;
+pub use progress::{Counts, Progress};
 pub use run::{run_drive, run_durable_drive};
