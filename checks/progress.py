@@ -128,8 +128,7 @@ def long_drive(plain):
 
 def short_drive(plain):
     ran = Ran(['--progress'], [TABLE + inserts(0, FEW)])
-    wrong = ran.err or (b'' if ran.status == 0 and ran.took < 0.9 else b'%.1f s' % ran.took)
-    return wrong and repr(wrong)
+    return '' if (ran.status, ran.err) == (0, b'') and ran.took < 0.9 else '%r in %.1f s' % (ran.err, ran.took)
 
 
 def no_terminal(plain):
@@ -148,9 +147,8 @@ def bad_line(plain):
 
 def one_terminal(plain):
     ran = Ran(['--progress'], SLOW, ('out', 'err'))
-    text, ran.out = ran.err, plain.out
-    return why_not(ran, plain, b'', 2, 1 + 3 * FEW) if lines_of(text, b'') else (
-        '' if lines_of(text, plain.out) and ran.status == plain.status else repr(text[:300]))
+    ran.out = plain.out
+    return why_not(ran, plain, plain.out, 2, 1 + 3 * FEW)
 
 
 def gone_terminal(plain):

@@ -25,5 +25,5 @@ mod signs;
 
 pub use closing::Closable;
 pub use fault::DriveFault;
-pub use progress::{Counts, Progress};
+pub use progress::{DriveCounts, Progress};
 pub use run::{run_drive, run_durable_drive};

@@ -20,7 +20,7 @@ pub struct Progress {
 
 /// What a `Progress` has counted.
 #[derive(Clone, Copy, Debug, PartialEq, Eq)]
-pub struct Counts {
+pub struct DriveCounts {
     /// The lines that are read.
     pub read: u64,
     /// The changesets that have a number.
@@ -57,7 +57,7 @@ impl Progress {
 
     /// What is counted so far. The threads go on meanwhile, so the counts may be of slightly
     /// different moments.
-    pub fn counts(&self) -> Counts {
+    pub fn counts(&self) -> DriveCounts {
         let mut least = u64::MAX;
         let mut greatest: u64 = 0;
         for cursor in &self.cursors {
@@ -65,7 +65,7 @@ impl Progress {
             least = least.min(cursor);
             greatest = greatest.max(cursor);
         }
-        Counts {
+        DriveCounts {
             read: self.read.load(Ordering::Relaxed),
             // an entry can be accepted before its sequencer has counted it
             placed: self.placed.load(Ordering::Relaxed).max(greatest),

@@ -3,7 +3,7 @@
 use crate::counting::reported;
 use crate::replica::replica_lines;
 use rb_case_files::{Options, difference, lines, read_if_there};
-use rb_drive::{Counts, DriveFault, Progress, run_drive, run_durable_drive};
+use rb_drive::{DriveCounts, DriveFault, Progress, run_drive, run_durable_drive};
 use sqlite::{Connection, Error, FileStore};
 use sqlite_disk::{Disk, Memory};
 use std::alloc::{AllocError, Global};
@@ -82,26 +82,12 @@ impl DriveCase {
         let progress = Progress::new(alloc, subscribers)?;
         let mut reader: &[u8] = &self.input;
         let mut written = Vec::new(alloc);
+        let (from, to) = (&mut reader, &mut written);
         let ended = match file {
-            None => run_drive(
-                rt,
-                alloc,
-                &mut reader,
-                &mut written,
-                config,
-                subscribers,
-                &progress,
-            ),
-            Some(file) => run_durable_drive(
-                rt,
-                alloc,
-                &mut reader,
-                &mut written,
-                config,
-                subscribers,
-                file,
-                &progress,
-            ),
+            None => run_drive(rt, alloc, from, to, config, subscribers, &progress),
+            Some(file) => {
+                run_durable_drive(rt, alloc, from, to, config, subscribers, file, &progress)
+            }
         };
         if ended.is_ok() && !self.has_counted(alloc, progress.counts())? {
             return Ok(Err(String::from_str(alloc, "it counted otherwise")?));
@@ -110,7 +96,7 @@ impl DriveCase {
     }
 
     // whether this is what the input has and the report must say
-    fn has_counted(&self, alloc: Global, counts: Counts) -> Result<bool, AllocError> {
+    fn has_counted(&self, alloc: Global, counts: DriveCounts) -> Result<bool, AllocError> {
         Ok(counts == reported(alloc, &self.input, &self.report)?)
     }
 

@@ -1,13 +1,13 @@
 //! What a drive must have counted, by its input and its report.
 
 use rb_case_files::lines;
-use rb_drive::Counts;
+use rb_drive::DriveCounts;
 use rb_script::{is, number, parts};
 use std::alloc::{AllocError, Global};
 
 /// The counts of a drive with this input and this report.
-pub fn reported(alloc: Global, input: &[u8], report: &[u8]) -> Result<Counts, AllocError> {
-    let mut counts = Counts {
+pub fn reported(alloc: Global, input: &[u8], report: &[u8]) -> Result<DriveCounts, AllocError> {
+    let mut counts = DriveCounts {
         read: line_count(alloc, input)?,
         placed: 0,
         least: u64::MAX,
@@ -30,7 +30,7 @@ fn line_count(alloc: Global, input: &[u8]) -> Result<u64, AllocError> {
 }
 
 // adds what a line of the report says: how many were placed, or a subscriber's cursor
-fn add(alloc: Global, counts: &mut Counts, line: &[u8]) -> Result<(), AllocError> {
+fn add(alloc: Global, counts: &mut DriveCounts, line: &[u8]) -> Result<(), AllocError> {
     let words = parts(alloc, line)?;
     match words.as_slice() {
         [name, count] if is(name, b"placed") => {

@@ -111,8 +111,8 @@ abbrev pub replica_by : Option (Text × List Row) → Option Text
 replica_by found = given_by found (codes "replica")
 
 -- whether it is shown how far a drive is
-abbrev pub progress_by : Option (Text × List Row) → Bool
-progress_by found = is_set found (codes "progress")
+abbrev pub watched_by : Option (Text × List Row) → Bool
+watched_by found = is_set found (codes "progress")
 
 -- how the script is answered
 abbrev pub answering_by : Option (Text × List Row) → Answering

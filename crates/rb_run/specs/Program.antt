@@ -27,8 +27,8 @@ use Rattle.rb_run.specs.declared.job.Job.TheVariants as job
 use Rattle.rb_drive.specs.Run.{DriveEnds}
 use Rattle.rb_drive.specs.declared.fault.DriveFault.{DriveFault}
 use Rattle.rb_run.specs.Endings.{ending_of, ending_of_drive, ending_of_show}
-use Rattle.rb_run.specs.Options.{answering_by, config_by, drive_by, form_by, is_called, progress_by}
-use Rattle.rb_run.specs.Options.{replica_by}
+use Rattle.rb_run.specs.Options.{answering_by, config_by, drive_by, form_by, is_called, replica_by}
+use Rattle.rb_run.specs.Options.{watched_by}
 use Rattle.rb_run.specs.declared.options.RangeFault.{RangeFault}
 use Rattle.rb_run.specs.declared.options.RangeFault.TheVariants.{Limit}
 use Rattle.rb_script.specs.declared.answering.Answering.{Answering}
@@ -144,8 +144,8 @@ abbrev pub calls_drive : List Text → Bool
 calls_drive words = is_called (subcommand_of program words) (codes "drive")
 
 -- whether they ask to be shown how far a drive is
-abbrev pub progress_in : List Text → Bool
-progress_in words = progress_by (subcommand_of program words)
+abbrev pub watched_in : List Text → Bool
+watched_in words = watched_by (subcommand_of program words)
 
 abbrev pub form_in : List Text → RowForm
 form_in words = form_by (subcommand_of program words)
@@ -168,7 +168,7 @@ AsksFor (job.Script limits how) words = AreTaken false false words
     × (config_in words ≡ Ok limits) × (how ≡ answering_in words)
 AsksFor (job.Drive limits n path shows) words = AreTaken false true words
     × (drive_in words ≡ Ok (limits, n)) × (option_map (λ p. p.now) path ≡ replica_in words)
-    × (shows ≡ progress_in words)
+    × (shows ≡ watched_in words)
 AsksFor (job.Range fault) words = (AreTaken false true words × (drive_in words ≡ Err fault))
     ⊎ ((limit : ConfigFault) × AreTaken false false words × (config_in words ≡ Err limit)
     × (fault ≡ Limit limit))

@@ -6,7 +6,7 @@ ghost use Rattle.std.specs.Prelude.{◌≡◌, option_map};
 ghost use Rattle.clap.specs.Words.{subcommand_rows_of};
 ghost use Rattle.rb_run.specs.Options.{answering_by, config_by, config_of, config_with};
 ghost use Rattle.rb_run.specs.Options.{drive_by, fault_text, form_by, given_by, is_called, is_set};
-ghost use Rattle.rb_run.specs.Options.{progress_by, range_text, replica_by, value_of, word_of};
+ghost use Rattle.rb_run.specs.Options.{range_text, replica_by, value_of, watched_by, word_of};
 
 use clap::ArgMatches;
 use rb_core::{Config, ConfigFault};
@@ -65,7 +65,7 @@ pub fn replica<'a>(found: &ArgMatches<'a>) -> Option<&'a str>
 
 /// Whether it is shown how far a drive is.
 pub fn progress(found: &ArgMatches) -> bool
-    ensures { result ≡ progress_by (subcommand_rows_of found.now) }
+    ensures { result ≡ watched_by (subcommand_rows_of found.now) }
 {
     flag(found, "progress")
 }

@@ -1,7 +1,7 @@
 //! Shows how far a drive is, once a second.
 
 use crate::screen::Screen;
-use rb_drive::{Counts, Progress};
+use rb_drive::{DriveCounts, Progress};
 use std::alloc::{AllocError, Global};
 use std::sync::Wait;
 use std::time::{Clock, Duration, Instant};
@@ -42,7 +42,7 @@ pub fn show_progress<R: Wait + Clock>(rt: &R, alloc: Global, progress: &Progress
 }
 
 // a line, which clears what another one has left of its own
-fn line(alloc: Global, counts: Counts, rate: u64) -> Result<String, AllocError> {
+fn line(alloc: Global, counts: DriveCounts, rate: u64) -> Result<String, AllocError> {
     let (read, placed) = (counts.read, counts.placed);
     let (least, greatest) = (counts.least, counts.greatest);
     format!(in alloc;
@@ -52,7 +52,7 @@ fn line(alloc: Global, counts: Counts, rate: u64) -> Result<String, AllocError> 
 
 // The rate of a second: of lines read until something is placed, then of entries that the slowest
 // subscriber accepted, or of changesets placed if it accepted none.
-fn rate(before: Counts, now: Counts, passed: Duration) -> u64 {
+fn rate(before: DriveCounts, now: DriveCounts, passed: Duration) -> u64 {
     let read = now.read.saturating_sub(before.read);
     let placed = now.placed.saturating_sub(before.placed);
     let accepted = now.least.saturating_sub(before.least);
