@@ -80,6 +80,7 @@ check 'gcc g++ valgrind python3 sqlite3 git' sh checks/scripts.sh
 # the program
 check sqlite3 sh checks/run.sh
 check '' sh checks/drive.sh
+check '' python3 checks/progress.py
 check '' python3 checks/drives.py
 check '' python3 checks/deliveries.py 300 "$SEED"
 check '' python3 checks/rings.py 5000 "$SEED"

@@ -73,6 +73,7 @@ rm checks/another.sh
 fails 'run.sh, no program' 'no program' sh checks/run.sh
 fails 'drive.sh, no program' 'no program' sh checks/drive.sh
 fails 'drives.py, no program' 'no program' python3 checks/drives.py
+fails 'progress.py, no program' 'no program' python3 checks/progress.py
 fails 'rings.py, no program' 'no program' python3 checks/rings.py
 fails 'hostile.py, no program' 'no program' python3 checks/hostile.py
 fails 'killed.sh, no program' 'no program' sh checks/killed.sh
@@ -128,6 +129,7 @@ fails 'pages.py, a program that only exits' 'no commands' python3 packaging/page
 fails 'run.sh, a program that only exits' 'checks failed' sh checks/run.sh
 fails 'drive.sh, a program that only exits' 'drives are bad' sh checks/drive.sh
 fails 'drives.py, a program that only exits' 'answers otherwise' python3 checks/drives.py
+fails 'progress.py, a program that only exits' 'checks failed' python3 checks/progress.py
 fails 'rings.py, a program that only exits' 'hung or differ' python3 checks/rings.py 5
 fails 'rings.py, no drive' 'no drive' python3 checks/rings.py 0
 fails 'hostile.py, a program that only exits' 'checks failed' python3 checks/hostile.py 'output fails'

@@ -81,6 +81,7 @@ fn accept_all<L: Hall, S: Alter, R: Threads + Wait + Sync>(
     ensures shown { HasShownConflict L.cells subscription.new result }
 {
     let rt = workers.rt;
+    let place = signs.progress.take_place();
     let mut looks: u64 = 0;
     for _ in rt.forever() {
         let seen = signs.placed.rings();
@@ -91,7 +92,7 @@ fn accept_all<L: Hall, S: Alter, R: Threads + Wait + Sync>(
             Ok(delivery) => {
                 looks = 0;
                 let accepted = subscription.accept(workers, alloc, broker, &delivery);
-                match settling(accepted, &delivery, signs) {
+                match settling(accepted, &delivery, signs, place) {
                     Ok(how) => {
                         if !subscription.settle(rt, alloc, broker, &delivery, how) {
                             return SubscriberEnd::Stopped;
@@ -114,16 +115,20 @@ fn accept_all<L: Hall, S: Alter, R: Threads + Wait + Sync>(
 // How a delivery is settled after this answer to its accept, or how the subscriber ends. One whose
 // entries this thread doesn't see yet goes back. One of several entries that conflicts goes back
 // opened: those before the conflict are accepted alone. A conflict of one entry ends the
-// subscriber.
+// subscriber. The cursor after an accepted one is counted at this place.
 fn settling(
     accepted: Result<u64, SubscriptionError>,
     delivery: &Delivery,
     signs: &Signs,
+    place: u64,
 ) -> Result<Settling, SubscriberEnd>
     ensures { EndsByRefusal delivery.now accepted result }
 {
     match accepted {
-        Ok(_) => Ok(Settling::Ack),
+        Ok(cursor) => {
+            signs.progress.set_cursor(place, cursor);
+            Ok(Settling::Ack)
+        }
         Err(SubscriptionError::Unseen { .. }) => Ok(Settling::Nack),
         Err(
             SubscriptionError::RefusedEntries {

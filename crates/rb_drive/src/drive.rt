@@ -1,21 +1,18 @@
 //! Runs a broker with its owners in threads, until all is drained.
 
 ghost use Rattle.std.specs.Prelude.{◌≡◌, ◌+◌, ℕ, List, [], length, map, replicate, IfErr};
-ghost use Rattle.std.specs.Prelude.{IfOk, IsTrue};
-ghost use Rattle.std.specs.Prelude.{Err, IfSome, IsSome};
-ghost use Rattle.std.specs.Arc.{arc_value};
+ghost use Rattle.std.specs.Prelude.{IfOk, IsTrue, Err, IfSome, IsSome};
+ghost use Rattle.std.specs.{Arc.{arc_value}, List.{AllByRecursion, flat_map}};
 ghost use Rattle.std.specs.FinMap as map;
-ghost use Rattle.std.specs.List.{AllByRecursion, flat_map};
 ghost use Rattle.cs_model.specs.declared.shape.Shape.{Shape};
 ghost use Rattle.replica_store.specs.Durable.{KeepsRows};
 ghost use Rattle.sqlite.specs.Held.{state};
 ghost use Rattle.rb_core.specs.State.{empty_tables};
 ghost use Rattle.rb_drive.specs.declared.input.Given.{Given as Line};
 ghost use Rattle.rb_drive.specs.Outcome.{HasMetAndEnded, IsDriven, IsEndAt, reported};
-ghost use Rattle.rb_drive.specs.Ending.{HasShownConflict};
 ghost use Rattle.rb_drive.specs.Owners.{beginning_of, publisher_lines, numbered_lines};
 ghost use Rattle.rb_drive.specs.Published.{AreByNumber, unsent_lines};
-ghost use Rattle.rb_drive.specs.Run.{IsOfThreads};
+ghost use Rattle.rb_drive.specs.{Ending.{HasShownConflict}, Run.{IsOfThreads}};
 ghost use Rattle.rb_drive.specs.declared.fault.DriveFault.TheVariants.{Store};
 
 use crate::accepting::EndedSubscriber;
@@ -25,6 +22,7 @@ use crate::ending::SubscriberEnd;
 use crate::fault::DriveFault;
 use crate::input::Given;
 use crate::owners::{Owners, run_all};
+use crate::progress::Progress;
 use crate::publishing::{FaultyLine, Publishing};
 use crate::signs::Signs;
 use cs_model::Schema;
@@ -71,6 +69,7 @@ pub fn drive<L: Hall + Send + Sync, S: Closable + Drop + Send, R: Threads + Wait
     alloc: Global,
     opened: Opened,
     plan: Plan<S>,
+    progress: &Progress,
 ) -> Result<Outcome<L>, DriveFault>
     requires sequence { (opened.limits ≡ L.limits) × (opened.cells ≡ L.cells) }
     requires queue { opened.queue ≡ L.queue }
@@ -85,7 +84,7 @@ pub fn drive<L: Hall + Send + Sync, S: Closable + Drop + Send, R: Threads + Wait
     ensures stored { result ≡ Err Store → IsSome plan.replica }
 {
     let is_durable = plan.replica.is_some();
-    match drive_owners::<L, S, R>(rt, alloc, opened, plan) {
+    match drive_owners::<L, S, R>(rt, alloc, opened, plan, progress) {
         Ok(outcome) => Ok(outcome),
         Err(why) => Err(fault_of(why, is_durable)),
     }
@@ -113,6 +112,7 @@ fn drive_owners<L: Hall + Send + Sync, S: Closable + Drop + Send, R: Threads + W
     alloc: Global,
     opened: Opened,
     plan: Plan<S>,
+    progress: &Progress,
 ) -> Result<Outcome<L>, DriveFault>
     requires sequence { (opened.limits ≡ L.limits) × (opened.cells ≡ L.cells) }
     requires queue { opened.queue ≡ L.queue }
@@ -134,7 +134,7 @@ fn drive_owners<L: Hall + Send + Sync, S: Closable + Drop + Send, R: Threads + W
         keeper,
     } = Broker::<L>::start(opened);
     let sequencer = Sequencer::new(alloc, sequencer, placer);
-    let signs = Signs::new(plan.lines.len() as u64);
+    let signs = Signs::new(plan.lines.len() as u64, progress);
     let Ok(owners) = all_owners(rt, alloc, &broker, &mut maker, sequencer, keeper, plan) else {
         return Err(DriveFault::Memory);
     };

@@ -8,6 +8,7 @@ ghost use Rattle.rb_drive.specs.declared.entries.LineEntry.TheVariants.{Table, C
 
 use crate::entries::{LineEntry, entry_in};
 use crate::fault::DriveFault;
+use crate::progress::Progress;
 use cs_model::{Octets, Schema, SchemaError, Shape};
 use rb_script::{MOST_OF_LINE, read_some};
 use std::alloc::{AllocError, Global};
@@ -49,14 +50,19 @@ struct Reading {
 /// 65,536 bytes; the last one may have no line end.
 ///
 /// Returns `Line` with the number of the first other line, as soon as it ends or is too long, and
-/// `Read` if the reader fails before.
-pub fn read_input<R: Read>(alloc: Global, reader: &mut R) -> Result<Input, DriveFault>
+/// `Read` if the reader fails before. Counts the lines as it reads them.
+pub fn read_input<R: Read>(
+    alloc: Global,
+    reader: &mut R,
+    progress: &Progress,
+) -> Result<Input, DriveFault>
     ensures { InputEnds result (R.remaining reader.old) (R.remaining reader.new) }
 {
     let mut buffer = zeros(alloc, PIECE)?;
     let piece = buffer.as_mut_slice();
     let mut reading = nothing_read(alloc);
     for _ in 0..u64::MAX {
+        progress.set_read(lines_in(&reading));
         let read = match read_some(reader, piece) {
             Ok(n) => n,
             Err(why) => return Err(DriveFault::Read(why)),
@@ -166,6 +172,16 @@ fn add_changeset(input: &mut Input, publisher: u64, text: Octets) -> Result<(), 
         text,
     })?;
     Ok(())
+}
+
+// How many lines are read so far, with the one that has only begun.
+fn lines_in(reading: &Reading) -> u64 {
+    let next = next_line(&reading.input);
+    if reading.line.is_empty() {
+        next - 1
+    } else {
+        next
+    }
 }
 
 // The number of the line after those that gave this input.

@@ -18,6 +18,7 @@ pub mod laws;
 mod lines;
 mod owners;
 mod placing;
+mod progress;
 mod publishing;
 mod report;
 mod run;
@@ -25,4 +26,5 @@ mod signs;
 
 pub use closing::Closable;
 pub use fault::DriveFault;
+pub use progress::{DriveCounts, Progress};
 pub use run::{run_drive, run_durable_drive};

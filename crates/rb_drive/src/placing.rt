@@ -25,8 +25,9 @@ pub fn place<L: Hall, R: Wait>(
         }
         let all_sent = signs.all_sent();
         match sequencer.turn(rt, alloc, broker) {
-            Turn::Placed(_) => {
+            Turn::Placed(told) => {
                 looks = 0;
+                signs.progress.set_placed(told.number());
                 signs.pulled.ring();
                 signs.placed.ring();
             }

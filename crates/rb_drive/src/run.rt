@@ -16,6 +16,7 @@ use crate::ending::SubscriberEnd;
 use crate::fault::DriveFault;
 use crate::input::{Input, read_input};
 use crate::lines::by_publisher;
+use crate::progress::Progress;
 use crate::report::write_report;
 use cs_model::{CopyIn, Schema};
 use rb_broker::{Hall, Opened};
@@ -31,7 +32,8 @@ use std::thread::Threads;
 
 /// Reads tables and changesets from `reader`, drives a broker with them, with so many subscribers
 /// and under these limits, and writes what it came to to `writer`, which should be buffered. Each
-/// publisher, the sequencer and each subscriber has a thread of its own.
+/// publisher, the sequencer and each subscriber has a thread of its own. `progress` counts how far
+/// it is, for a thread that shows it meanwhile.
 ///
 /// Returns 0, or 3 if a subscriber ended by a conflict.
 ///
@@ -46,13 +48,23 @@ pub fn run_drive<I: Read, W: Write, R: Threads + Wait + Sync>(
     writer: &mut W,
     config: Config,
     subscribers: u64,
+    progress: &Progress,
 ) -> Result<u8, DriveFault>
     ensures ends { DriveEnds config subscribers result (I.remaining reader.old)
         (I.remaining reader.new) (W.contents writer.old) (W.contents writer.new) }
     ensures many { 1024 < subscribers → result ≡ Err TooMany }
     ensures unstored { result ≡ Err Store → ⊥ }
 {
-    run_over::<MemStore, I, W, R>(rt, alloc, reader, writer, config, subscribers, None)
+    run_over::<MemStore, I, W, R>(
+        rt,
+        alloc,
+        reader,
+        writer,
+        config,
+        subscribers,
+        None,
+        progress,
+    )
 }
 
 /// Does as `run_drive`, and the first subscriber keeps its rows and its cursor in a database:
@@ -70,6 +82,7 @@ pub fn run_durable_drive<S, I, W, R>(
     config: Config,
     subscribers: u64,
     file: Result<Connection<S>, Error>,
+    progress: &Progress,
 ) -> Result<u8, DriveFault>
 where
     S: Closable + Drop + Send,
@@ -82,7 +95,16 @@ where
     ensures opened { OnOk result (IsOk file) }
     ensures blank { OnOk result (IfOk file (λ conn. conn.schema ≡ empty_schema)) }
 {
-    run_over(rt, alloc, reader, writer, config, subscribers, Some(file))
+    run_over(
+        rt,
+        alloc,
+        reader,
+        writer,
+        config,
+        subscribers,
+        Some(file),
+        progress,
+    )
 }
 
 // a drive whose first subscriber keeps its rows in this database, if there is one
@@ -94,6 +116,7 @@ fn run_over<S: Closable + Drop + Send, I: Read, W: Write, R: Threads + Wait + Sy
     config: Config,
     subscribers: u64,
     file: Option<Result<Connection<S>, Error>>,
+    progress: &Progress,
 ) -> Result<u8, DriveFault>
     ensures ends { DriveEnds config subscribers result (I.remaining reader.old)
         (I.remaining reader.new) (W.contents writer.old) (W.contents writer.new) }
@@ -106,7 +129,7 @@ fn run_over<S: Closable + Drop + Send, I: Read, W: Write, R: Threads + Wait + Sy
     if subscribers > MOST_SUBSCRIPTIONS {
         return Err(DriveFault::TooMany);
     }
-    let Input { schema, givens } = read_input(alloc, reader)?;
+    let Input { schema, givens } = read_input(alloc, reader, progress)?;
     let shared = Arc::new(alloc, schema.copy_in(alloc)?)?;
     let lines = by_publisher(alloc, givens)?;
     let opened = Opened::new(alloc, config, schema)?;
@@ -117,7 +140,7 @@ fn run_over<S: Closable + Drop + Send, I: Read, W: Write, R: Threads + Wait + Sy
         subscribers,
         replica,
     };
-    report::<Brand, S, W, R>(rt, alloc, writer, opened, plan)
+    report::<Brand, S, W, R>(rt, alloc, writer, opened, plan, progress)
 }
 
 // a new replica in this database, if there is one
@@ -155,6 +178,7 @@ fn report<L, S, W, R>(
     writer: &mut W,
     opened: Opened,
     plan: Plan<S>,
+    progress: &Progress,
 ) -> Result<u8, DriveFault>
 where
     L: Hall + Send + Sync,
@@ -172,7 +196,7 @@ where
         (W.contents writer.new) }
     ensures stored { result ≡ Err Store → IsSome plan.replica }
 {
-    let outcome = drive::<L, S, R>(rt, alloc, opened, plan)?;
+    let outcome = drive::<L, S, R>(rt, alloc, opened, plan, progress)?;
     match write_report(alloc, writer, &outcome) {
         Ok(()) => Ok(status(&outcome.accepting)),
         Err(why) => Err(DriveFault::Write(why)),

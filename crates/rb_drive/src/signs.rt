@@ -1,6 +1,8 @@
 //! What the threads of a drive tell one another beside the broker: that all loops end, whether
-//! because the durable store failed, how many publishers still send, and bells that end a wait.
+//! because the durable store failed, how many publishers still send, how far the drive is, and
+//! bells that end a wait.
 
+use crate::progress::Progress;
 use std::sync::Wait;
 use std::sync::atomic::{AtomicBool, AtomicU64, Ordering};
 use std::thread;
@@ -59,7 +61,7 @@ impl Bell {
 
 /// What the threads of a drive share beside the broker. Who changes something rings afterwards.
 #[derive(Drop)]
-pub struct Signs {
+pub struct Signs<'a> {
     stopped: AtomicBool,
     store_failed: AtomicBool,
     sending: AtomicU64,
@@ -69,11 +71,13 @@ pub struct Signs {
     pub pulled: Bell,
     /// Something was placed, or the sequence was closed.
     pub placed: Bell,
+    /// What the threads count.
+    pub progress: &'a Progress,
 }
 
-impl Signs {
+impl<'a> Signs<'a> {
     /// For so many publishers.
-    pub fn new(publishers: u64) -> Signs {
+    pub fn new(publishers: u64, progress: &'a Progress) -> Signs<'a> {
         Signs {
             stopped: AtomicBool::new(false),
             store_failed: AtomicBool::new(false),
@@ -81,6 +85,7 @@ impl Signs {
             sent: Bell::new(),
             pulled: Bell::new(),
             placed: Bell::new(),
+            progress,
         }
     }
 

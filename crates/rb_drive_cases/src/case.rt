@@ -1,8 +1,9 @@
 //! `DriveCase`: an input with its expected report, read from files and compared.
 
+use crate::counting::reported;
 use crate::replica::replica_lines;
 use rb_case_files::{Options, difference, lines, read_if_there};
-use rb_drive::{DriveFault, run_drive, run_durable_drive};
+use rb_drive::{DriveCounts, DriveFault, Progress, run_drive, run_durable_drive};
 use sqlite::{Connection, Error, FileStore};
 use sqlite_disk::{Disk, Memory};
 use std::alloc::{AllocError, Global};
@@ -43,8 +44,8 @@ impl DriveCase {
         !self.replica.is_empty()
     }
 
-    /// Drives a broker with the input, and compares its ending and its report. Returns how many
-    /// lines the report has, or a text with the first one that differs.
+    /// Drives a broker with the input, and compares its ending, its report and what it counted.
+    /// Returns how many lines the report has, or a text with the first one that differs.
     pub fn run<T: Threads + Wait + Sync>(
         &self,
         threads: &T,
@@ -78,21 +79,25 @@ impl DriveCase {
             subscribers,
             ..
         } = options;
+        let progress = Progress::new(alloc, subscribers)?;
         let mut reader: &[u8] = &self.input;
         let mut written = Vec::new(alloc);
+        let (from, to) = (&mut reader, &mut written);
         let ended = match file {
-            None => run_drive(rt, alloc, &mut reader, &mut written, config, subscribers),
-            Some(file) => run_durable_drive(
-                rt,
-                alloc,
-                &mut reader,
-                &mut written,
-                config,
-                subscribers,
-                file,
-            ),
+            None => run_drive(rt, alloc, from, to, config, subscribers, &progress),
+            Some(file) => {
+                run_durable_drive(rt, alloc, from, to, config, subscribers, file, &progress)
+            }
         };
+        if ended.is_ok() && !self.has_counted(alloc, progress.counts())? {
+            return Ok(Err(String::from_str(alloc, "it counted otherwise")?));
+        }
         self.compare(alloc, &ended, &written)
+    }
+
+    // whether this is what the input has and the report must say
+    fn has_counted(&self, alloc: Global, counts: DriveCounts) -> Result<bool, AllocError> {
+        Ok(counts == reported(alloc, &self.input, &self.report)?)
     }
 
     // compares the ending and the report

@@ -1,9 +1,11 @@
-//! Drives a broker with each input of a folder, and compares the report and how it ends with what
-//! they must be. A case is files and no code. One that says what a replica must have is driven once
-//! more, with a database file. Prints what differs, and how many lines it compared.
+//! Drives a broker with each input of a folder, and compares the report, how it ends and what it
+//! counted with what they must be. A case is files and no code. One that says what a replica must
+//! have is driven once more, with a database file. Prints what differs, and how many lines it
+//! compared.
 #![tactic(auto)]
 
 mod case;
+mod counting;
 mod replica;
 
 use case::DriveCase;

@@ -1,5 +1,6 @@
--- The limits, how many subscribers a drive has, where the first one keeps its rows, how a script is
--- answered, and how rows are shown, from the options of a command line.
+-- The limits, how many subscribers a drive has, where the first one keeps its rows, whether it is
+-- shown how far the drive is, how a script is answered, and how rows are shown, from the options of
+-- a command line.
 use Rattle.std.specs.Prelude.{ℕ, Bool, false, List, [], Option, Some, None, Result, Ok, Err, codes}
 use Rattle.std.specs.Prelude.{if◌then◌else◌, ◌&&◌, nat_le}
 use Rattle.std.specs.Option.{option_and_then}
@@ -108,6 +109,10 @@ drive_by found = drive_from (drive_config_by found) (subscribers_by found)
 -- the path of the database in which the first subscriber of a drive keeps its rows, if it is given
 abbrev pub replica_by : Option (Text × List Row) → Option Text
 replica_by found = given_by found (codes "replica")
+
+-- whether it is shown how far a drive is
+abbrev pub watched_by : Option (Text × List Row) → Bool
+watched_by found = is_set found (codes "progress")
 
 -- how the script is answered
 abbrev pub answering_by : Option (Text × List Row) → Answering

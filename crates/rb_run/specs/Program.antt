@@ -28,6 +28,7 @@ use Rattle.rb_drive.specs.Run.{DriveEnds}
 use Rattle.rb_drive.specs.declared.fault.DriveFault.{DriveFault}
 use Rattle.rb_run.specs.Endings.{ending_of, ending_of_drive, ending_of_show}
 use Rattle.rb_run.specs.Options.{answering_by, config_by, drive_by, form_by, is_called, replica_by}
+use Rattle.rb_run.specs.Options.{watched_by}
 use Rattle.rb_run.specs.declared.options.RangeFault.{RangeFault}
 use Rattle.rb_run.specs.declared.options.RangeFault.TheVariants.{Limit}
 use Rattle.rb_script.specs.declared.answering.Answering.{Answering}
@@ -87,7 +88,8 @@ abbrev pub drive_command : Shape
 drive_command = record (new_shape (codes "drive")) {
   has_version = true;
   rules = limit_options ++ limit_option (codes "subscribers") (codes "1")
-      ∷ limit_option (codes "appliers") (codes "1") ∷ path_option (codes "replica") ∷ [];
+      ∷ limit_option (codes "appliers") (codes "1") ∷ path_option (codes "replica")
+      ∷ flag_option (codes "progress") ∷ [];
 }
 
 -- `show`, with its option
@@ -141,6 +143,10 @@ calls_show words = is_called (subcommand_of program words) (codes "show")
 abbrev pub calls_drive : List Text → Bool
 calls_drive words = is_called (subcommand_of program words) (codes "drive")
 
+-- whether they ask to be shown how far a drive is
+abbrev pub watched_in : List Text → Bool
+watched_in words = watched_by (subcommand_of program words)
+
 abbrev pub form_in : List Text → RowForm
 form_in words = form_by (subcommand_of program words)
 
@@ -154,13 +160,15 @@ AreTaken shows drives words = (wrong_in words ≡ []) × (calls_show words ≡ s
     × (calls_drive words ≡ drives)
 
 -- What the words ask for. If the program takes them, a script under their limits and in their way,
--- or a drive under their limits with their number of subscribers and their database, or a message
--- about an option, or rows in their form; else a text to print, also if memory ran out.
+-- or a drive under their limits with their number of subscribers and their database, shown exactly
+-- if they ask for it, or a message about an option, or rows in their form; else a text to print,
+-- also if memory ran out.
 abbrev pub AsksFor : Job → List Text → Type 0
 AsksFor (job.Script limits how) words = AreTaken false false words
     × (config_in words ≡ Ok limits) × (how ≡ answering_in words)
-AsksFor (job.Drive limits n path) words = AreTaken false true words
+AsksFor (job.Drive limits n path shows) words = AreTaken false true words
     × (drive_in words ≡ Ok (limits, n)) × (option_map (λ p. p.now) path ≡ replica_in words)
+    × (shows ≡ watched_in words)
 AsksFor (job.Range fault) words = (AreTaken false true words × (drive_in words ≡ Err fault))
     ⊎ ((limit : ConfigFault) × AreTaken false false words × (config_in words ≡ Err limit)
     × (fault ≡ Limit limit))
@@ -203,12 +211,12 @@ EndsShown DisplayVersion text ending w0 w = HasPrinted ending
 EndsShown kind text ending w0 w = (ending ≡ Misused text) × Keeps w0 w
 
 -- What the program that does this reads and writes, and how it ends. Only for a script, a drive and
--- rows is anything read. In which database a drive's first subscriber keeps its rows makes no
--- difference here.
+-- rows is anything read. In which database a drive's first subscriber keeps its rows, and whether
+-- the drive shows how far it is, makes no difference here.
 abbrev pub EndsFor : Job → Ending → Option (List ℕ) → Option (List ℕ) → Option (List ℕ)
     → Option (List ℕ) → Type 0
 EndsFor (job.Script limits how) ending r0 r w0 w = HasAnswered how limits ending r0 r w0 w
-EndsFor (job.Drive limits n path) ending r0 r w0 w = HasDriven limits n ending r0 r w0 w
+EndsFor (job.Drive limits n path shows) ending r0 r w0 w = HasDriven limits n ending r0 r w0 w
 EndsFor (job.Range fault) ending r0 r w0 w = (ending ≡ OutOfRange fault) × Keeps r0 r × Keeps w0 w
 EndsFor (job.Show form) ending r0 r w0 w = HasShown form ending r0 r w0 w
 EndsFor (job.Print text) ending r0 r w0 w = EndsShown (kind_of text) text ending w0 w × Keeps r0 r

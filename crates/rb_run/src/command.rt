@@ -84,6 +84,14 @@ applies all of them to empty tables: all in threads of their own. When all is dr
 The database of --replica has two tables, rb_row with the rows and rb_mark with the cursor, which
 change together at each accept.
 
+--progress shows a line such as
+  read 60001  placed 48213  accepted 41007..48101  5210/s
+
+It counts the lines that are read, the changesets that have a number, and the entries that the
+slowest and the fastest subscriber have accepted. Then comes a rate. Until something is placed it is
+that of lines read. After that it is that of entries accepted by the slowest subscriber, or of
+changesets placed while that one accepts none.
+
 Statuses:
   0  the report is written
   1  it stopped, with one line on standard error: the number of the first line that is none of the
@@ -160,7 +168,16 @@ fn drive<'a>(alloc: Global) -> Result<Command<'a>, AllocError>
         "replica",
         "Keep the rows of subscriber 0 in an SQLite database at FILE, which must be new or empty",
     );
-    command.arg(subscribers)?.arg(appliers)?.arg(replica)
+    let progress = flag(
+        alloc,
+        "progress",
+        "Show each second on standard error how far the drive is, if that is a terminal",
+    );
+    command
+        .arg(subscribers)?
+        .arg(appliers)?
+        .arg(replica)?
+        .arg(progress)
 }
 
 // a subcommand whose first options are the five limits of a broker

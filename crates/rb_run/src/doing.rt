@@ -4,14 +4,17 @@ ghost use Rattle.std.specs.Prelude.{◌≡◌, map, string_bytes, is_some, IfSom
 ghost use Rattle.clap.specs.Values.{kind_of};
 ghost use Rattle.rb_run.specs.Program.{EndsAsAsked, EndsFor, EndsShown, HasAnswered, HasPrinted};
 ghost use Rattle.rb_run.specs.Program.{HasDriven, HasShown};
+ghost use Rattle.std.specs.Thread.{IsSync};
 
 use crate::ending::Ending;
 use crate::files::Files;
 use crate::job::Job;
+use crate::progress::show_progress;
+use crate::screen::Screen;
 use clap::Error;
 use clap::error::ErrorKind;
 use rb_core::Config;
-use rb_drive::{run_drive, run_durable_drive};
+use rb_drive::{Progress, run_drive, run_durable_drive};
 use rb_script::{Answering, ScriptFault, run_script};
 use rb_show::{RowForm, show};
 use sqlite::{Connection, FileStore};
@@ -19,41 +22,51 @@ use std::alloc::Global;
 use std::io;
 use std::io::{Read, Write};
 use std::sync::Wait;
-use std::thread::Threads;
+use std::thread::{Threads, join_mut};
+use std::time::Clock;
 
 /// Does what these words ask for. The first is the program's name.
 ///
 /// Answers the script in `reader` on `writer`, drives a broker with the changesets in it and
 /// reports there, shows the rows in it there, or prints help or the version. If the words are
-/// faulty, nothing is read and nothing written, and the ending says what is wrong.
-pub fn asked<T: Threads + Wait + Sync + Files, R: Read, W: Write>(
+/// faulty, nothing is read and nothing written, and the ending says what is wrong. If a drive is to
+/// show how far it is, it does so on `screen`, where that is a terminal.
+pub fn asked<T: Threads + Wait + Sync + Files + Clock, R: Read, W: Write>(
     rt: &T,
     alloc: Global,
     words: &[String],
     reader: &mut R,
     writer: &mut W,
+    screen: &Screen,
 ) -> Ending
     ensures { EndsAsAsked (map string_bytes words.now) result
         (R.remaining reader.old) (R.remaining reader.new)
         (W.contents writer.old) (W.contents writer.new) }
 {
-    done(rt, alloc, Job::of(alloc, words), reader, writer)
+    done(rt, alloc, Job::of(alloc, words), reader, writer, screen)
 }
 
-fn done<T: Threads + Wait + Sync + Files, R: Read, W: Write>(
+fn done<T: Threads + Wait + Sync + Files + Clock, R: Read, W: Write>(
     rt: &T,
     alloc: Global,
     job: Job,
     reader: &mut R,
     writer: &mut W,
+    screen: &Screen,
 ) -> Ending
     ensures { EndsFor job.entry result (R.remaining reader.old) (R.remaining reader.new)
         (W.contents writer.old) (W.contents writer.new) }
 {
     match job {
         Job::Script(config, how) => answered(alloc, config, how, reader, writer),
-        Job::Drive(config, subscribers, path) => {
-            driven(rt, alloc, config, subscribers, path, reader, writer)
+        Job::Drive(config, subscribers, path, shows) => {
+            let progress = counted(alloc, subscribers, shows, screen);
+            let driving = Driving {
+                config,
+                subscribers,
+                path,
+            };
+            shown_or_not(rt, alloc, &driving, progress, reader, writer, screen)
         }
         Job::Range(fault) => Ending::OutOfRange(fault),
         Job::Show(form) => showed(alloc, form, reader, writer),
@@ -75,23 +88,94 @@ fn answered<R: Read, W: Write>(
     Ending::of(run_script(alloc, reader, writer, config, how))
 }
 
+// What a drive is run with: its limits, how many subscribers it has, and where the first one keeps
+// its rows, if anywhere.
+#[derive(Drop)]
+struct Driving<'a> {
+    config: Config,
+    subscribers: u64,
+    path: Option<&'a str>,
+}
+
+// What a drive counts for the screen. Nothing if nobody can look at it, or if memory runs out.
+fn counted(alloc: Global, subscribers: u64, shows: bool, screen: &Screen) -> Option<Progress> {
+    if shows && screen.is_terminal() {
+        Progress::new(alloc, subscribers).ok()
+    } else {
+        None
+    }
+}
+
+// Drives a broker, and shows how far it is if that is counted.
+fn shown_or_not<T: Threads + Wait + Sync + Files + Clock, R: Read, W: Write>(
+    rt: &T,
+    alloc: Global,
+    driving: &Driving,
+    progress: Option<Progress>,
+    reader: &mut R,
+    writer: &mut W,
+    screen: &Screen,
+) -> Ending
+    ensures { HasDriven driving.now.config driving.now.subscribers result
+        (R.remaining reader.old) (R.remaining reader.new)
+        (W.contents writer.old) (W.contents writer.new) }
+{
+    match progress {
+        Some(progress) => driven_and_shown(rt, alloc, driving, &progress, reader, writer, screen),
+        None => {
+            let uncounted = Progress::without_cursors(alloc);
+            driven(rt, alloc, driving, &uncounted, reader, writer)
+        }
+    }
+}
+
+// Drives a broker, while another thread shows how far it is. That one has only the counts. If it
+// can't be made, the drive runs alone.
+fn driven_and_shown<T: Threads + Wait + Sync + Files + Clock, R: Read, W: Write>(
+    rt: &T,
+    alloc: Global,
+    driving: &Driving,
+    progress: &Progress,
+    reader: &mut R,
+    writer: &mut W,
+    screen: &Screen,
+) -> Ending
+    ensures { HasDriven driving.now.config driving.now.subscribers result
+        (R.remaining reader.old) (R.remaining reader.new)
+        (W.contents writer.old) (W.contents writer.new) }
+{
+    let mut show = || show_progress(rt, alloc, progress, screen);
+    let mut drive = || -> Ending
+        requires { IsSync T.row }
+        ensures { HasDriven driving.entry.now.config driving.entry.now.subscribers result
+            (R.remaining reader.entry.now) (R.remaining reader.exit.now)
+            (W.contents writer.entry.now) (W.contents writer.exit.now) }
+    {
+        let ending = driven(rt, alloc, driving, progress, reader, writer);
+        screen.close(rt);
+        ending
+    };
+    join_mut(rt, &mut show, &mut drive).1
+}
+
 // Drives a broker. Its first subscriber keeps its rows in a database at this path, if there is one.
 // Opening it may fail: the drive says so, once it has read its input.
 fn driven<T: Threads + Wait + Sync + Files, R: Read, W: Write>(
     rt: &T,
     alloc: Global,
-    config: Config,
-    subscribers: u64,
-    path: Option<&str>,
+    driving: &Driving,
+    progress: &Progress,
     reader: &mut R,
     writer: &mut W,
 ) -> Ending
-    ensures { HasDriven config subscribers result (R.remaining reader.old)
-        (R.remaining reader.new) (W.contents writer.old) (W.contents writer.new) }
+    ensures { HasDriven driving.now.config driving.now.subscribers result
+        (R.remaining reader.old) (R.remaining reader.new)
+        (W.contents writer.old) (W.contents writer.new) }
 {
-    let driven = match replica_at(rt, path) {
-        None => run_drive(rt, alloc, reader, writer, config, subscribers),
-        Some(file) => run_durable_drive(rt, alloc, reader, writer, config, subscribers, file),
+    let (config, n) = (driving.config, driving.subscribers);
+    let driven = match replica_at(rt, driving.path) {
+        None => run_drive(rt, alloc, reader, writer, config, n, progress),
+        Some(file) => run_durable_drive(rt, alloc, reader, writer, config, n, file, progress),
     };
     Ending::of_drive(driven)
 }

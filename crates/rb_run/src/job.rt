@@ -5,7 +5,7 @@ ghost use Rattle.clap.specs.Words.{FailsBy, subcommand_of, subcommand_rows_of};
 ghost use Rattle.rb_run.specs.Program.{AsksFor, program, wrong_in};
 
 use crate::command::program;
-use crate::options::{RangeFault, answering, called, config, drive, form, replica};
+use crate::options::{RangeFault, answering, called, config, drive, form, progress, replica};
 use clap::{ArgMatches, Error};
 use rb_core::Config;
 use rb_script::Answering;
@@ -18,8 +18,8 @@ pub enum Job<'a> {
     /// Answers a script under these limits, in this way.
     Script(Config, Answering),
     /// Drives a broker under these limits, with so many subscribers. The first keeps its rows in a
-    /// database at this path, if there is one.
-    Drive(Config, u64, Option<&'a str>),
+    /// database at this path, if there is one. The last says whether it is shown how far it is.
+    Drive(Config, u64, Option<&'a str>, bool),
     /// Says which option's word isn't a number in its range.
     Range(RangeFault),
     /// Shows rows in this form.
@@ -37,7 +37,9 @@ impl<'a> Job<'a> {
             Err(shown) => Job::Print(shown),
             Ok(found) if called(&found, "show") => Job::Show(form(&found)),
             Ok(found) if called(&found, "drive") => match drive(&found) {
-                Ok((config, subscribers)) => Job::Drive(config, subscribers, replica(&found)),
+                Ok((config, subscribers)) => {
+                    Job::Drive(config, subscribers, replica(&found), progress(&found))
+                }
                 Err(fault) => Job::Range(fault),
             },
             Ok(found) => match config(&found) {

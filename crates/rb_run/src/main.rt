@@ -3,7 +3,8 @@
 //! ask for. They ask for a script under the limits and in the way of their options, for a drive
 //! under these with so many subscribers and a database for the first one, for a message about the
 //! first faulty option, for rows in the form of their options, or for a text to print. The exit
-//! status and the message on standard error are those of the ending.
+//! status and the message on standard error are those of the ending. A drive can show on standard
+//! error how far it is, where that is a terminal.
 #![tactic(auto)]
 
 mod command;
@@ -12,6 +13,8 @@ mod ending;
 mod files;
 mod job;
 mod options;
+mod progress;
+mod screen;
 
 ghost use Rattle.std.specs.Prelude.{◌≡◌, map, string_bytes, MatchResult, None};
 ghost use Rattle.std.specs.IoError.{error_kind};
@@ -21,13 +24,15 @@ ghost use Rattle.rb_run.specs.Program.{EndsAsAsked};
 use doing::asked;
 use ending::Ending;
 use files::Files;
+use screen::{Output, Screen};
 use sqlite::{Connection, FileStore};
 use sqlite_std_file::File;
 use std::alloc::Global;
-use std::io::{BufWriter, Stdin, Stdout};
+use std::io::{BufWriter, Stderr, Stdin, Stdout};
 use std::process::ExitCode;
 use std::sync::Wait;
 use std::thread::Threads;
+use std::time::Clock;
 use std::{env, io};
 
 // What is read and written. Only `main` can say that threads may be made, so it hands these down.
@@ -37,6 +42,7 @@ struct Streams {
     stdout: Stdout,
     // the same once more, for whoever has no buffer to put it in
     spare: Stdout,
+    stderr: Stderr,
 }
 
 impl Files for HostRuntime {
@@ -55,6 +61,7 @@ fn main(rt: HostRuntime) -> ExitCode {
         stdin: rt.stdin(),
         stdout: rt.stdout(),
         spare: rt.stdout(),
+        stderr: rt.stderr(),
     };
     let ending = run(&rt, rt.alloc(), words, streams);
     // if even this fails, nothing is left to do
@@ -72,7 +79,7 @@ fn words_of(rt: &HostRuntime) -> io::Result<Vec<String>> {
 }
 
 // Does what the command line asks for, if its words can be had.
-fn run<T: Threads + Wait + Sync + Files>(
+fn run<T: Threads + Wait + Sync + Files + Clock>(
     rt: &T,
     alloc: Global,
     words: io::Result<Vec<String>>,
@@ -89,7 +96,7 @@ fn run<T: Threads + Wait + Sync + Files>(
 }
 
 // Does what these words ask for, from standard input to standard output.
-fn called<T: Threads + Wait + Sync + Files>(
+fn called<T: Threads + Wait + Sync + Files + Clock>(
     rt: &T,
     alloc: Global,
     words: &[String],
@@ -100,11 +107,19 @@ fn called<T: Threads + Wait + Sync + Files>(
     let Streams {
         mut stdin,
         stdout,
-        mut spare,
+        spare,
+        stderr,
     } = streams;
-    match BufWriter::with_capacity(alloc, 65_536, stdout) {
-        Ok(mut writer) => asked(rt, alloc, words, &mut stdin, &mut writer),
+    let screen = Screen::new(stderr);
+    let mut spare = beside(rt, spare, &screen);
+    match BufWriter::with_capacity(alloc, 65_536, beside(rt, stdout, &screen)) {
+        Ok(mut writer) => asked(rt, alloc, words, &mut stdin, &mut writer, &screen),
         // without a buffer the answers go out in parts
-        Err(_) => asked(rt, alloc, words, &mut stdin, &mut spare),
+        Err(_) => asked(rt, alloc, words, &mut stdin, &mut spare, &screen),
     }
+}
+
+// standard output beside this screen
+fn beside<'a, T: Wait>(rt: &'a T, stdout: Stdout, screen: &'a Screen) -> Output<'a, T> {
+    Output { rt, stdout, screen }
 }

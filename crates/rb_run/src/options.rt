@@ -1,11 +1,12 @@
 //! Reads what is asked for from the options of a command line: the limits, how many subscribers a
-//! drive has, where the first one keeps its rows, how a script is answered, and how rows are shown.
+//! drive has, where the first one keeps its rows, whether it is shown how far the drive is, how a
+//! script is answered, and how rows are shown.
 
 ghost use Rattle.std.specs.Prelude.{◌≡◌, option_map};
 ghost use Rattle.clap.specs.Words.{subcommand_rows_of};
 ghost use Rattle.rb_run.specs.Options.{answering_by, config_by, config_of, config_with};
 ghost use Rattle.rb_run.specs.Options.{drive_by, fault_text, form_by, given_by, is_called, is_set};
-ghost use Rattle.rb_run.specs.Options.{range_text, replica_by, value_of, word_of};
+ghost use Rattle.rb_run.specs.Options.{range_text, replica_by, value_of, watched_by, word_of};
 
 use clap::ArgMatches;
 use rb_core::{Config, ConfigFault};
@@ -60,6 +61,13 @@ pub fn replica<'a>(found: &ArgMatches<'a>) -> Option<&'a str>
     ensures { option_map (λ path. path.now) result ≡ replica_by (subcommand_rows_of found.now) }
 {
     given(found, "replica")
+}
+
+/// Whether it is shown how far a drive is.
+pub fn progress(found: &ArgMatches) -> bool
+    ensures { result ≡ watched_by (subcommand_rows_of found.now) }
+{
+    flag(found, "progress")
 }
 
 /// How the options of the subcommand say that a script is answered.

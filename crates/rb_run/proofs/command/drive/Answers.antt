@@ -7,4 +7,5 @@ pub returns : goal.returns
 returns c =
     let subscribers = with_option _ _ _ _ _ c.in_ok-arg.ensures c.in_ok-command.ensures c.limit-subscribers.ensures in
     let appliers = with_option _ _ _ _ _ c.in_ok-arg-2.ensures subscribers c.limit-appliers.ensures in
-    IfOk-weaker c.arg-3.result _ _ (λ command h. with_option _ _ _ _ _ h appliers c.path-replica.ensures) c.arg-3.ensures
+    let replica = with_option _ _ _ _ _ c.in_ok-arg-3.ensures appliers c.path-replica.ensures in
+    IfOk-weaker c.arg-4.result _ _ (λ command h. with_option _ _ _ _ _ h replica c.flag-progress.ensures) c.arg-4.ensures
