@@ -87,6 +87,13 @@ impl<L: Hall> Sequencer<L> {
         self.told.get(place as usize)
     }
 
+    /// Its part in the history.
+    pub fn stake(&self) -> &Stake<L>
+        ensures { result.now ≡ self.now.owner }
+    {
+        &self.stake
+    }
+
     /// Takes one turn. If the hand is empty, pulls the next item. Then places the item in hand.
     ///
     /// Returns `Idle` if nothing waits. `Refused` leaves the item in hand: the journal is full, the

@@ -1,6 +1,7 @@
 //! `Stake`: an owner's part in the history of its broker's steps.
 
-ghost use Rattle.std.specs.Prelude.{◌≡◌, ◌++◌, ◌∷◌, []};
+ghost use Rattle.std.specs.Prelude.{◌≡◌, ◌≤◌, ◌++◌, ◌∷◌, [], length};
+ghost use mathlib.Core.List.{IsPrefix};
 ghost use Rattle.rb_subscriber.specs.Owner.{OthersSince, has_seen};
 ghost use Rattle.rb_subscriber.specs.Subscription.{seen_by};
 
@@ -49,6 +50,17 @@ impl<L: StepLedger> Stake<L> {
         }
     }
 
+    /// Of two owners of one broker, what the one has seen is a beginning of what the other has.
+    /// By it laws of two moments hold of what two calls have shown, in whichever threads.
+    pub fn compare(&self, other: &Stake<L>)
+        ensures less { length self.now.seen ≤ length other.now.seen
+            → IsPrefix self.now.seen other.now.seen }
+        ensures more { length other.now.seen ≤ length self.now.seen
+            → IsPrefix other.now.seen self.now.seen }
+    {
+        self.seen.compare(&other.seen);
+    }
+
     /// Shows its owner the whole history. Since it looked last, others alone have made steps.
     pub fn catch_up(&mut self, all: &mut Chronicle<Step>)
         requires name { all.old.name ≡ L.history }
@@ -94,6 +106,13 @@ impl<L: StepLedger> Stake<L> {
 }
 
 impl<L: StepLedger> Subscription<L> {
+    /// Its part in the history.
+    pub fn stake(&self) -> &Stake<L>
+        ensures { result.now ≡ self.now.owner }
+    {
+        &self.stake
+    }
+
     /// Shows it the whole history. Since it looked last, others alone have made steps.
     pub fn catch_up(&mut self, all: &mut Chronicle<Step>)
         requires name { all.old.name ≡ L.history }
@@ -117,6 +136,13 @@ impl<L: StepLedger> Subscription<L> {
 }
 
 impl<L: StepLedger> Lost<L> {
+    /// Its part in the history.
+    pub fn stake(&self) -> &Stake<L>
+        ensures { result.now ≡ self.now.owner }
+    {
+        self.subscription.stake()
+    }
+
     /// Shows it the whole history, as `Subscription::catch_up` does.
     pub fn catch_up(&mut self, all: &mut Chronicle<Step>)
         requires name { all.old.name ≡ L.history }
