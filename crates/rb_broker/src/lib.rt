@@ -8,6 +8,7 @@ mod broker;
 mod calls;
 mod hall;
 mod holds;
+pub mod laws;
 mod locked;
 mod maker;
 mod opened;
