@@ -67,6 +67,7 @@ check awk sh checks/names.sh
 check awk sh checks/files.sh
 check '' python3 checks/proofs.py
 check '' python3 checks/embed.py
+check git python3 checks/links.py
 check '' python3 bench/plot.py --check
 check '' python3 checks/definitions.py
 check '' sh docs/proof/definitions.sh

@@ -259,6 +259,10 @@ fails 'definitions.py, no definitions' 'no definition' python3 checks/definition
 fails 'definitions.sh, no definitions' 'no definition' sh docs/proof/definitions.sh
 fails 'proofs.py, lemma files without a comment' 'no comment' python3 checks/proofs.py
 fails 'embed.py, an empty proof' 'not in the program' python3 checks/embed.py
+printf '`keeper/none.c`, [there](EMBED.md#nowhere), (docs/C.md, Nothing)\n' >>docs/SCRIPT.md
+fails 'links.py, a path that is not there' 'no keeper/none.c' python3 checks/links.py
+fails 'links.py, an anchor that is not there' 'no heading for EMBED.md#nowhere' python3 checks/links.py
+fails 'links.py, a section that is not there' 'docs/C.md has no heading Nothing' python3 checks/links.py
 sed -i 's/laws::every_text/laws::no_text/' docs/proof/PROVED.md
 fails 'claims.py, no such law' 'no law no_text' python3 checks/claims.py
 sed -i '/Schema::admits\t/d' docs/proof/refusals.tsv
