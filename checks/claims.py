@@ -1,7 +1,7 @@
 #!/usr/bin/env python3
-"""Checks PROVED.md, refusals.tsv and planted.tsv of docs/proof/ against the sources.
+"""Checks README.md, and PROVED.md, refusals.tsv and planted.tsv of docs/proof/, against the sources.
 
-Of PROVED.md: each law that is named as `laws::NAME` is one of a crate of its section, or of any crate where the section
+Of the two pages: each law that is named as `laws::NAME` is one of a crate of its section, or of any crate where the section
 names none. Where clauses follow a function and a colon, the function has these.
 Of refusals.tsv: each call is a public function of its crate, and each clause is one of its contract, where `result` is
 the clause without a name. Each test is a function or a module of its crate. Each function with a contract that other crates
@@ -85,20 +85,20 @@ def rows(name, columns):
         yield cells
 
 
-def wrong_proved(known, laws):
-    """What is wrong in PROVED.md."""
-    for section in re.split(r"^## ", (ROOT / "docs/proof/PROVED.md").read_text(), flags=re.M):
+def wrong_page(page, known, laws):
+    """What is wrong in README.md or in PROVED.md."""
+    for section in re.split(r"^## ", page.read_text(), flags=re.M):
         text = " ".join(section.split())
         crates = [crate for crate in WORD.findall(section.partition("\n")[0]) if crate in known] or list(known)
         for crate, law in re.findall(r"`(?:(\w+)::)?laws::(\w+)`", text):
             if not any(law in laws[one] for one in ([crate] if crate else crates)):
-                yield f"PROVED.md: no law {law}"
+                yield f"{page.name}: no law {law}"
         for call, clauses in re.findall(r"`((?:\w+::)*\w+)`: ((?:`\w+`(?:, )?)+)", text):
             named = [f for crate in known for f in known[crate] if call in (f.call, f.name)]
             there = named + [laws[crate][name] for crate in laws for name in laws[crate] if call.endswith(f"laws::{name}")]
             for clause in re.findall(r"\w+", clauses):
                 if call not in known and not any(clause in f.clauses for f in there):
-                    yield f"PROVED.md: {call} has no clause {clause}"
+                    yield f"{page.name}: {call} has no clause {clause}"
 
 
 def wrong_refusals(known, exported):
@@ -146,7 +146,9 @@ def main():
         exported[crate.name] = exports(crate)
     if not any(known.values()) or not list(rows("refusals.tsv", 6)) or not list(rows("planted.tsv", 5)):
         sys.exit("claims.py: no function or no row was found")
-    wrong = [*wrong_proved(known, laws), *wrong_refusals(known, exported), *wrong_planted()]
+    pages = [ROOT / "README.md", ROOT / "docs/proof/PROVED.md"]
+    wrong = [line for page in pages for line in wrong_page(page, known, laws)]
+    wrong += [*wrong_refusals(known, exported), *wrong_planted()]
     for line in wrong:
         print(f"claims.py: {line}", file=sys.stderr)
     sys.exit(1 if wrong else 0)
