@@ -76,7 +76,7 @@ def missing(page, tree):
         names = tree.names if word in paths else tree.ends
         if not OTHERS.match(word) and not tree.has(word, names) and not tree.has(f"{folder}/{word}", tree.names):
             yield f"no {word}"
-    for name, head in SECTION.findall(" ".join(text.split("\n"))):
+    for name, head in SECTION.findall(" ".join(text.split())):
         pages = [each for each in tree.files if each == name or each == str(folder / name)]
         if pages and head not in anchors(ROOT / pages[0])[1]:
             yield f"{name} has no heading {head}"
