@@ -13,15 +13,15 @@ use Rattle.rb_desk.proofs.pictures.Replays.{ack_frame, expire_frame, nack_frame,
 use Rattle.rb_desk.proofs.pictures.Replays.{reconnect_frame, subscribe_frame, take_any_frame, take_frame, unsubscribe_frame}
 use Rattle.rb_subscriber.specs.Owner.{desk_after, steps_made}
 
-replayed_on : (p : Picture) (xs ys : List Step) → replayed p (xs ++ ys) ≡ replayed (replayed p xs) ys
-replayed_on p [] ys = refl
-replayed_on p (x ∷ xs) ys = replayed_on (after_step p x) xs ys
+replayed_both : (p : Picture) (xs ys : List Step) → replayed p (xs ++ ys) ≡ replayed (replayed p xs) ys
+replayed_both p [] ys = refl
+replayed_both p (x ∷ xs) ys = replayed_both (after_step p x) xs ys
 
 -- the later picture is a replay of the earlier one
 pub later_picture : (limits : Limits) (early late : List (ℕ × Step)) (p : IsPrefix early late)
     → replayed (desk_after limits early).picture (steps_made p.0) ≡ (desk_after limits late).picture
 later_picture limits early late p =
-    sym (replayed_on _ (steps_made early) (steps_made p.0))
+    sym (replayed_both _ (steps_made early) (steps_made p.0))
     ∙ ap (replay limits) (sym (map-append (λ (t : ℕ × Step). t.1) early p.0))
     ∙ ap (λ l. replay limits (steps_made l)) p.1
 
@@ -29,9 +29,9 @@ placed_closing : (p : Picture) (r : Result ℕ DeskRefusal) → (placed_if p r).
 placed_closing p (Ok number) = (place_frame p).closing
 placed_closing p (Err why) = refl
 
-close_again : (p : Picture) (last : ℕ) → p.closing ≡ Some last → (close p).1.closing ≡ Some last
+closed_twice : (p : Picture) (last : ℕ) → p.closing ≡ Some last → (close p).1.closing ≡ Some last
 unfolding close
-close_again p last is = ap (λ (o : Option ℕ). Some (last_number p o)) is
+closed_twice p last is = ap (λ (o : Option ℕ). Some (last_number p o)) is
 
 -- a closing number stays, at a step and at a list of them
 closing_stays : (p : Picture) (s : Step) (last : ℕ) → p.closing ≡ Some last → (after_step p s).closing ≡ Some last
@@ -46,12 +46,12 @@ closing_stays p (step.Expire now) last is = (expire_frame p now).closing ∙ is
 closing_stays p (step.Reconnect s cursor) last is = (reconnect_frame p s cursor).closing ∙ is
 closing_stays p (step.Unsubscribe s link) last is = (unsubscribe_frame p s link).closing ∙ is
 closing_stays p step.Place last is = placed_closing p (prepare p) ∙ is
-closing_stays p step.Close last is = close_again p last is
+closing_stays p step.Close last is = closed_twice p last is
 
-pub stays_closed : (p : Picture) (steps : List Step) (last : ℕ) → p.closing ≡ Some last
+pub closing_stays_after : (p : Picture) (steps : List Step) (last : ℕ) → p.closing ≡ Some last
     → (replayed p steps).closing ≡ Some last
-stays_closed p [] last is = is
-stays_closed p (s ∷ steps) last is = stays_closed (after_step p s) steps last (closing_stays p s last is)
+closing_stays_after p [] last is = is
+closing_stays_after p (s ∷ steps) last is = closing_stays_after (after_step p s) steps last (closing_stays p s last is)
 
 -- a closed picture's front is its closing number
 pub at_closing : (p : Picture) (last : ℕ) → p.closing ≡ Some last → IfSome p.closing (λ l. l ≡ p.front) → p.front ≡ last

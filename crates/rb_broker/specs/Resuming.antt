@@ -7,7 +7,7 @@ use Rattle.rb_desk.specs.Limits.{Limits}
 use Rattle.rb_desk.specs.declared.step.Step.TheVariants.{Reconnect}
 use Rattle.rb_subscriber.specs.Lost.{FitsLost, gone_on}
 use Rattle.rb_subscriber.specs.Owner.{Owner}
-use Rattle.rb_subscriber.specs.Subscription.{SubscriptionState, seen_by}
+use Rattle.rb_subscriber.specs.Subscription.{SubscriptionState, with_owner}
 use Rattle.rb_broker.specs.Holding.{DeskReturns, counted_step}
 use Rattle.rb_broker.specs.declared.refusal.RefusedResume.{RefusedResume}
 use Rattle.rb_broker.specs.declared.refusal.ResumeError.{ResumeError}
@@ -21,7 +21,7 @@ IsStateWhy lost tables cursor (resuming.Desk error) = FitsLost lost tables curso
 -- what was to be resumed comes back, with the reason; it may have seen more of the history
 abbrev pub ResumesNothing : {L : Type 0} → SubscriptionState → TableState → ℕ → RefusedResume L
     → Type 0
-ResumesNothing lost tables cursor refused = (refused.lost ≡ seen_by lost refused.lost.owner)
+ResumesNothing lost tables cursor refused = (refused.lost ≡ with_owner lost refused.lost.owner)
     × (refused.tables ≡ tables) × IsStateWhy lost tables cursor refused.why
 
 -- The desk is asked for a reconnection of this subscription at this cursor. The new link, or the
@@ -47,9 +47,9 @@ RefusesReconnect (resuming.Desk error) sub cursor old new =
 abbrev pub ResumesAsDesk : {L : Type 0} → Result SubscriptionState (RefusedResume L)
     → SubscriptionState → TableState → ℕ → JournaledPicture → JournaledPicture → Type 0
 ResumesAsDesk (Ok s) lost tables cursor old new =
-    (s ≡ counted_step (seen_by (gone_on lost tables cursor s.link) s.owner))
+    (s ≡ counted_step (with_owner (gone_on lost tables cursor s.link) s.owner))
     × JournalAnswers (Ok s.link) (reconnect old.picture lost.sub cursor)
     (Reconnect lost.sub cursor) old new
 ResumesAsDesk (Err refused) lost tables cursor old new =
-    (refused.lost ≡ seen_by lost refused.lost.owner)
+    (refused.lost ≡ with_owner lost refused.lost.owner)
     × (refused.tables ≡ tables) × RefusesReconnect refused.why lost.sub cursor old new

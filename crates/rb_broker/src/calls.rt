@@ -7,7 +7,7 @@ ghost use Rattle.rb_desk.specs.Calls.{ack, expire, nack, nack_opened, reconnect,
 ghost use Rattle.rb_desk.specs.Calls.{unsubscribe};
 ghost use Rattle.rb_desk.specs.declared.step.Step.TheVariants as step;
 ghost use Rattle.rb_subscriber.specs.Lost.{FitsLost, gone_on};
-ghost use Rattle.rb_subscriber.specs.Subscription.{cursor_of, new_subscription, seen_by};
+ghost use Rattle.rb_subscriber.specs.Subscription.{cursor_of, new_subscription, with_owner};
 ghost use Rattle.rb_broker.specs.Holding.{DeskReturns, RefusesTables, ShowsDrained};
 ghost use Rattle.rb_broker.specs.Holding.{SubscribesAfterDesk, counted_step, desk_answer};
 ghost use Rattle.rb_broker.specs.Holding.{ended_step, heard_too, relinked_step};
@@ -70,9 +70,9 @@ impl<L: Hall> Broker<L> {
         now: u64,
     ) -> Result<Delivery, TakeError>
         ensures ok { OnOk result (subscription.new ≡
-            counted_step (seen_by subscription.old subscription.new.owner)) }
+            counted_step (with_owner subscription.old subscription.new.owner)) }
         ensures err { OnErr result (subscription.new ≡
-            seen_by subscription.old subscription.new.owner) }
+            with_owner subscription.old subscription.new.owner) }
         ensures of { IfOk result (λ delivery. (delivery.sub ≡ subscription.old.sub)
             × (delivery.link ≡ subscription.old.link)) }
         ensures drained { IfErr result (ShowsDrained L.cells (cursor_of subscription.old)) }
@@ -117,9 +117,9 @@ impl<L: Hall> Broker<L> {
         delivery: &Delivery,
     ) -> Result<u64, DeskError>
         ensures ok { OnOk result (subscription.new ≡
-            counted_step (seen_by subscription.old subscription.new.owner)) }
+            counted_step (with_owner subscription.old subscription.new.owner)) }
         ensures err { OnErr result (subscription.new ≡
-            seen_by subscription.old subscription.new.owner) }
+            with_owner subscription.old subscription.new.owner) }
         ensures desk { DeskReturns L.limits result (λ p. ack p subscription.old.sub
             delivery.now.link delivery.now.number (cursor_of subscription.old))
             (step.Ack subscription.old.sub delivery.now.link delivery.now.number
@@ -141,9 +141,9 @@ impl<L: Hall> Broker<L> {
         delivery: &Delivery,
     ) -> Result<(), DeskError>
         ensures ok { OnOk result (subscription.new ≡
-            counted_step (seen_by subscription.old subscription.new.owner)) }
+            counted_step (with_owner subscription.old subscription.new.owner)) }
         ensures err { OnErr result (subscription.new ≡
-            seen_by subscription.old subscription.new.owner) }
+            with_owner subscription.old subscription.new.owner) }
         ensures desk { DeskReturns L.limits result (λ p. nack p subscription.old.sub
             delivery.now.link delivery.now.number)
             (step.Nack subscription.old.sub delivery.now.link delivery.now.number)
@@ -167,9 +167,9 @@ impl<L: Hall> Broker<L> {
         delivery: &Delivery,
     ) -> Result<u64, DeskError>
         ensures ok { OnOk result (subscription.new ≡
-            counted_step (seen_by subscription.old subscription.new.owner)) }
+            counted_step (with_owner subscription.old subscription.new.owner)) }
         ensures err { OnErr result (subscription.new ≡
-            seen_by subscription.old subscription.new.owner) }
+            with_owner subscription.old subscription.new.owner) }
         ensures desk { DeskReturns L.limits result (λ p. nack_opened p subscription.old.sub
             delivery.now.link delivery.now.number)
             (step.NackOpened subscription.old.sub delivery.now.link delivery.now.number)
@@ -206,9 +206,9 @@ impl<L: Hall> Broker<L> {
         subscription: &mut Subscription<L>,
     ) -> Result<u64, DeskError>
         ensures ok { IfOk result (λ link. subscription.new ≡
-            relinked_step link (seen_by subscription.old subscription.new.owner)) }
+            relinked_step link (with_owner subscription.old subscription.new.owner)) }
         ensures err { OnErr result (subscription.new ≡
-            seen_by subscription.old subscription.new.owner) }
+            with_owner subscription.old subscription.new.owner) }
         ensures desk { DeskReturns L.limits result
             (λ p. reconnect p subscription.old.sub (cursor_of subscription.old))
             (step.Reconnect subscription.old.sub (cursor_of subscription.old))
@@ -234,7 +234,7 @@ impl<L: Hall> Broker<L> {
     ) -> Result<Subscription<L>, RefusedResume<L>>
         ensures fits { OnOk result (FitsLost lost tables cursor) }
         ensures ok { IfOk result (λ s.
-            s ≡ counted_step (seen_by (gone_on lost tables cursor s.link) s.owner)) }
+            s ≡ counted_step (with_owner (gone_on lost tables cursor s.link) s.owner)) }
         ensures refused { IfErr result (ResumesNothing lost tables cursor) }
         ensures link { IfOk result (λ s. ReconnectReturns L.limits lost.sub cursor (Ok s.link)
             lost.owner s.owner) }
@@ -259,9 +259,9 @@ impl<L: Hall> Broker<L> {
         subscription: &mut Subscription<L>,
     ) -> Result<(), DeskError>
         ensures ok { OnOk result (subscription.new ≡
-            ended_step (seen_by subscription.old subscription.new.owner)) }
+            ended_step (with_owner subscription.old subscription.new.owner)) }
         ensures err { OnErr result (subscription.new ≡
-            seen_by subscription.old subscription.new.owner) }
+            with_owner subscription.old subscription.new.owner) }
         ensures desk { DeskReturns L.limits result
             (λ p. unsubscribe p subscription.old.sub subscription.old.link)
             (step.Unsubscribe subscription.old.sub subscription.old.link)

@@ -9,7 +9,7 @@ ghost use Rattle.rb_desk.specs.Journaled.{IsReplay, JournalAnswers, counted_step
 ghost use Rattle.rb_desk.specs.declared.step.Step.TheVariants as step;
 ghost use Rattle.rb_subscriber.specs.Lost.{FitsLost};
 ghost use Rattle.rb_subscriber.specs.Owner.{OthersSince, has_seen};
-ghost use Rattle.rb_subscriber.specs.Subscription.{cursor_of, seen_by};
+ghost use Rattle.rb_subscriber.specs.Subscription.{cursor_of, with_owner};
 ghost use Rattle.rb_broker.specs.Holding.{AreReplays, IsAtEnd, MakesSubscription, ShowsDrained};
 ghost use Rattle.rb_broker.specs.Holding.{counted_step, desk_answer, desk_error, ended_step};
 ghost use Rattle.rb_broker.specs.Holding.{heard_too, own_step, relinked_step};
@@ -85,9 +85,9 @@ impl<L: Hall> Locked<L> {
         ensures seen { subscription.new.owner
             ≡ has_seen subscription.old.owner self.new.history.log }
         ensures ok { OnOk result (subscription.new ≡
-            counted_step (seen_by subscription.old subscription.new.owner)) }
+            counted_step (with_owner subscription.old subscription.new.owner)) }
         ensures err { OnErr result (subscription.new ≡
-            seen_by subscription.old subscription.new.owner) }
+            with_owner subscription.old subscription.new.owner) }
         ensures of { IfOk result (λ delivery. (delivery.sub ≡ subscription.old.sub)
             × (delivery.link ≡ subscription.old.link)) }
         ensures drained { IfErr result (ShowsDrained L.cells (cursor_of subscription.old)) }
@@ -186,9 +186,9 @@ impl<L: Hall> Locked<L> {
         ensures seen { subscription.new.owner
             ≡ has_seen subscription.old.owner self.new.history.log }
         ensures ok { OnOk result (subscription.new ≡
-            counted_step (seen_by subscription.old subscription.new.owner)) }
+            counted_step (with_owner subscription.old subscription.new.owner)) }
         ensures err { OnErr result (subscription.new ≡
-            seen_by subscription.old subscription.new.owner) }
+            with_owner subscription.old subscription.new.owner) }
     {
         steps_are_counted();
         only_subscribe_and_close();
@@ -233,9 +233,9 @@ impl<L: Hall> Locked<L> {
         ensures seen { subscription.new.owner
             ≡ has_seen subscription.old.owner self.new.history.log }
         ensures ok { OnOk result (subscription.new ≡
-            counted_step (seen_by subscription.old subscription.new.owner)) }
+            counted_step (with_owner subscription.old subscription.new.owner)) }
         ensures err { OnErr result (subscription.new ≡
-            seen_by subscription.old subscription.new.owner) }
+            with_owner subscription.old subscription.new.owner) }
     {
         steps_are_counted();
         only_subscribe_and_close();
@@ -279,9 +279,9 @@ impl<L: Hall> Locked<L> {
         ensures seen { subscription.new.owner
             ≡ has_seen subscription.old.owner self.new.history.log }
         ensures ok { OnOk result (subscription.new ≡
-            counted_step (seen_by subscription.old subscription.new.owner)) }
+            counted_step (with_owner subscription.old subscription.new.owner)) }
         ensures err { OnErr result (subscription.new ≡
-            seen_by subscription.old subscription.new.owner) }
+            with_owner subscription.old subscription.new.owner) }
     {
         steps_are_counted();
         only_subscribe_and_close();
@@ -351,9 +351,9 @@ impl<L: Hall> Locked<L> {
         ensures seen { subscription.new.owner
             ≡ has_seen subscription.old.owner self.new.history.log }
         ensures ok { IfOk result (λ link. subscription.new ≡
-            relinked_step link (seen_by subscription.old subscription.new.owner)) }
+            relinked_step link (with_owner subscription.old subscription.new.owner)) }
         ensures err { OnErr result (subscription.new ≡
-            seen_by subscription.old subscription.new.owner) }
+            with_owner subscription.old subscription.new.owner) }
     {
         steps_are_counted();
         only_subscribe_and_close();
@@ -439,9 +439,9 @@ impl<L: Hall> Locked<L> {
         ensures seen { subscription.new.owner
             ≡ has_seen subscription.old.owner self.new.history.log }
         ensures ok { OnOk result (subscription.new ≡
-            ended_step (seen_by subscription.old subscription.new.owner)) }
+            ended_step (with_owner subscription.old subscription.new.owner)) }
         ensures err { OnErr result (subscription.new ≡
-            seen_by subscription.old subscription.new.owner) }
+            with_owner subscription.old subscription.new.owner) }
     {
         steps_are_counted();
         only_subscribe_and_close();
@@ -500,7 +500,7 @@ fn note<L: Hall>(
     ensures log { all.new.log ≡
         all.old.log ++ (subscription.old.owner.number, step.now) ∷ [] }
     ensures subscription { subscription.new ≡ counted_step
-        (seen_by subscription.old (has_seen subscription.old.owner all.new.log)) }
+        (with_owner subscription.old (has_seen subscription.old.owner all.new.log)) }
 {
     let _steps = desk.steps();
     register.count(subscription);

@@ -7,9 +7,9 @@ use Rattle.rb_history.proofs.Lists.{count_under-append, one_added}
 use Rattle.rb_subscriber.specs.Owner.{Owner, OthersSince}
 
 -- an owner that has seen a beginning with all entries of its own
-pub others_since : (me : Owner) (made : ℕ) (log : List (ℕ × Step)) → IsPrefix me.seen log
+pub since_it_looked : (me : Owner) (made : ℕ) (log : List (ℕ × Step)) → IsPrefix me.seen log
     → count_under me.number me.seen ≡ made → count_under me.number log ≡ made → OthersSince me log
-others_since me made log begins had all =
+since_it_looked me made log begins had all =
     let sum : count_under me.number log ≡ count_under me.number me.seen + count_under me.number begins.0 =
     ap (count_under me.number) (sym begins.1) ∙ count_under-append me.number me.seen begins.0 in
     (begins.0, begins.1, omega (arith, sum, had, all))

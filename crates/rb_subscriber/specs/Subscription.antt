@@ -69,8 +69,8 @@ new_subscription sub start link tables owner = record {
 }
 
 -- the same subscription, when its owner has seen more
-abbrev pub seen_by : SubscriptionState → Owner → SubscriptionState
-seen_by s owner = record s { owner = owner }
+abbrev pub with_owner : SubscriptionState → Owner → SubscriptionState
+with_owner s owner = record s { owner = owner }
 
 -- the token of the entry with this number, if it is accepted
 abbrev pub accepted_token : ℕ → List CellToken → ℕ → Option CellToken

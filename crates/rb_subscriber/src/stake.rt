@@ -3,7 +3,7 @@
 ghost use Rattle.std.specs.Prelude.{◌≡◌, ◌≤◌, ◌++◌, ◌∷◌, [], length};
 ghost use mathlib.Core.List.{IsPrefix};
 ghost use Rattle.rb_subscriber.specs.Owner.{OthersSince, has_seen};
-ghost use Rattle.rb_subscriber.specs.Subscription.{seen_by};
+ghost use Rattle.rb_subscriber.specs.Subscription.{with_owner};
 
 use crate::lost::Lost;
 use crate::step_ledger::StepLedger;
@@ -14,7 +14,7 @@ use std::marker::{Model, PhantomData};
 
 /// What an owner holds of its broker's history: the right to make steps under its own number, and
 /// what it has seen. Contracts relate the calls of threads by it. It takes no memory, and its calls
-/// do nothing when the program runs. Only a broker's lock has the history, so only it can add steps.
+/// do nothing when the program runs. Only a broker's lock has the history, so only it adds steps.
 #[derive(Drop)]
 pub struct Stake<L: StepLedger> {
     hand: Hand<Step>,
@@ -118,7 +118,7 @@ impl<L: StepLedger> Subscription<L> {
         requires name { all.old.name ≡ L.history }
         ensures same { all.new ≡ all.old }
         ensures others { OthersSince self.old.owner all.old.log }
-        ensures seen { self.new ≡ seen_by self.old (has_seen self.old.owner all.old.log) }
+        ensures seen { self.new ≡ with_owner self.old (has_seen self.old.owner all.old.log) }
     {
         self.stake.catch_up(all);
     }
@@ -129,7 +129,7 @@ impl<L: StepLedger> Subscription<L> {
         requires seen { self.old.owner.seen ≡ all.old.log }
         ensures name { all.new.name ≡ all.old.name }
         ensures log { all.new.log ≡ all.old.log ++ (self.old.owner.number, step.now) ∷ [] }
-        ensures seen { self.new ≡ seen_by self.old (has_seen self.old.owner all.new.log) }
+        ensures seen { self.new ≡ with_owner self.old (has_seen self.old.owner all.new.log) }
     {
         self.stake.append(all, step);
     }
@@ -148,7 +148,7 @@ impl<L: StepLedger> Lost<L> {
         requires name { all.old.name ≡ L.history }
         ensures same { all.new ≡ all.old }
         ensures others { OthersSince self.old.owner all.old.log }
-        ensures seen { self.new ≡ seen_by self.old (has_seen self.old.owner all.old.log) }
+        ensures seen { self.new ≡ with_owner self.old (has_seen self.old.owner all.old.log) }
     {
         self.subscription.catch_up(all);
     }

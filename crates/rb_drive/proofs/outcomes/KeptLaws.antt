@@ -7,7 +7,7 @@ use Rattle.rb_sequence.specs.Cells.{Cells}
 use Rattle.rb_broker.specs.Holding.{counted_step}
 use Rattle.rb_subscriber.specs.Accept.{refusal_before}
 use Rattle.rb_subscriber.specs.Durable.{DurableAnswers, Falls, KeptAnswers, durable_by}
-use Rattle.rb_subscriber.specs.Subscription.{SubscriptionState, cursor_of, new_subscription, own_endpoint, seen_by}
+use Rattle.rb_subscriber.specs.Subscription.{SubscriptionState, cursor_of, new_subscription, own_endpoint, with_owner}
 use Rattle.rb_subscriber.specs.declared.refusal.AcceptRefusal.{AcceptRefusal}
 use Rattle.rb_subscriber.specs.declared.refusal.DurableError.{DurableError}
 use Rattle.rb_subscriber.specs.declared.refusal.DurableError.TheVariants as durable
@@ -50,8 +50,8 @@ still_kept K cells delivery (Err why) old new r0 r answers kept unasked before n
 
 -- what holds of a subscription, whatever its count of steps and whatever it has seen, holds after a call of the broker
 pub kept_by_call : {A E : Type 0} (P : SubscriptionState → Type 0) (result : Result A E) (old new : SubscriptionState)
-    → OnOk result (new ≡ counted_step (seen_by old new.owner)) → OnErr result (new ≡ seen_by old new.owner)
-    → P (counted_step (seen_by old new.owner)) → P (seen_by old new.owner) → P new
+    → OnOk result (new ≡ counted_step (with_owner old new.owner)) → OnErr result (new ≡ with_owner old new.owner)
+    → P (counted_step (with_owner old new.owner)) → P (with_owner old new.owner) → P new
 kept_by_call P (Ok done) old new ok err counted same = subst P (sym ok) counted
 kept_by_call P (Err why) old new ok err counted same = subst P (sym err) same
 

@@ -3,7 +3,7 @@ use Rattle.rb_desk.specs.Picture.{Picture}
 use Rattle.rb_desk.specs.Steps.{FloorsRise}
 use Rattle.rb_desk.proofs.pictures.Replays.{front_rises_all, replay_keeps, replayed_rise}
 use Rattle.rb_subscriber.specs.Owner.{desk_after, steps_made}
-use Rattle.rb_broker.proofs.SeenLaws.{at_closing, later_picture, stays_closed}
+use Rattle.rb_broker.proofs.SeenLaws.{at_closing, later_picture, closing_stays_after}
 use Rattle.rb_broker.proofs.laws.what_is_seen_stays.Goals as goal
 
 pub returns-clause-front : goal.returns-clause-front
@@ -21,7 +21,7 @@ pub returns-clause-closed : goal.returns-clause-closed
 returns-clause-closed c = λ limits early late last in_range p is.
     let was = (desk_after limits early).picture in
     let closed = subst (λ (q : Picture). q.closing ≡ Some last) (later_picture limits early late p)
-    (stays_closed was (steps_made p.0) last is) in (
+    (closing_stays_after was (steps_made p.0) last is) in (
       closed,
       at_closing (desk_after limits late).picture last closed
           (replay_keeps limits (steps_made late) in_range).closed,
