@@ -1,7 +1,7 @@
 """The shared library of the keeper: where it is found, and the types of its calls and of SQLite's.
 
-It is the operand `library`, or the file that the environment variable GUBZELK_KEEPER_LIBRARY names, or
-libgubzelk_keeper.so beside the file that GUBZELK_LIBRARY names, or beside this file, or what the system's linker finds.
+It is the operand `library`, or the file that the environment variable GUBZELK_REPLICAS_LIBRARY names, or
+libgubzelk_replicas.so beside the file that GUBZELK_LIBRARY names, or beside this file, or what the system's linker finds.
 
 It calls the system's SQLite, libsqlite3.so.0, 3.37 or later with sessions. SQLite's calls are looked up through the
 keeper's library, so that both are of one SQLite."""
@@ -16,7 +16,7 @@ from typing import Any, Callable, Dict, List, Optional, Tuple, Union
 from .native import forks
 from .refused import LibraryError, WrongProcess
 
-FILE = 'libgubzelk_keeper.so'
+FILE = 'libgubzelk_replicas.so'
 #: The oldest SQLite that has all calls.
 SQLITE = 3037000
 #: What gubzelk.h has for a lag that isn't known.
@@ -126,17 +126,17 @@ def found_keeper(library: Optional[Path] = None) -> str:
             return os.fsdecode(library)
         except TypeError:
             raise TypeError(f'library is a path, not {type(library).__name__}') from None
-    named = os.environ.get('GUBZELK_KEEPER_LIBRARY')
+    named = os.environ.get('GUBZELK_REPLICAS_LIBRARY')
     if named:
         return named
     for file in [os.environ.get('GUBZELK_LIBRARY') or __file__, __file__]:
         beside = os.path.join(os.path.dirname(os.path.abspath(file)), FILE)
         if os.path.exists(beside):
             return beside
-    known: Optional[str] = ctypes.util.find_library('gubzelk_keeper')
+    known: Optional[str] = ctypes.util.find_library('gubzelk_replicas')
     if known:
         return known
-    raise LibraryError(f'no {FILE}: pass `library`, set GUBZELK_KEEPER_LIBRARY, or put the file beside {__file__}')
+    raise LibraryError(f'no {FILE}: pass `library`, set GUBZELK_REPLICAS_LIBRARY, or put the file beside {__file__}')
 
 
 def load_keeper(path: str) -> KeeperLibrary:

@@ -35,6 +35,12 @@ class InFolder(unittest.TestCase):
         self.addCleanup(found.close)
         return found
 
+    def other(self, file, **options):
+        """A connection of Python's own to a file."""
+        found = sqlite3.connect(file, isolation_level=None, **options)
+        self.addCleanup(found.close)
+        return found
+
     def refuses(self, kind, call, *words, **options):
         """The exception of a call that is refused, with words of its own."""
         with self.assertRaises(kind) as caught:

@@ -78,7 +78,7 @@ class KeeperHeader(unittest.TestCase):
         self.assertEqual(len(found), 13)
         self.assertEqual(found, keeper_native.CALLS)
         self.assertEqual(set(METHODS) | {'message'}, set(found))
-        shown = re.findall(r'gz_(\w+);', (KEEPER.parent / 'packaging/exports-keeper.map').read_text())
+        shown = re.findall(r'gz_(\w+);', (KEEPER.parent / 'packaging/exports-replicas.map').read_text())
         self.assertEqual(sorted(shown), sorted(found))
 
     def test_refusals_that_docstrings_name(self):
@@ -125,8 +125,9 @@ class KeeperHeader(unittest.TestCase):
                 wanted.append(f'{name}.{field} {place.offset} {place.size}')
         text = '#include "gubzelk.h"\n#include <stdio.h>\nint main(void) {' + '\n'.join(prints) + 'return 0; }'
         with tempfile.TemporaryDirectory() as folder:
-            subprocess.run(['gcc', '-I', str(KEEPER), '-x', 'c', '-', '-o', f'{folder}/places'], input=text.encode(), check=True)
-            found = subprocess.run([f'{folder}/places'], stdout=subprocess.PIPE, check=True).stdout.decode()
+            program = f'{folder}/places'
+            subprocess.run(['gcc', '-I', str(KEEPER), '-x', 'c', '-', '-o', program], input=text.encode(), check=True)
+            found = subprocess.run([program], stdout=subprocess.PIPE, check=True).stdout.decode()
         self.assertEqual(found.split('\n')[:-1], wanted)
 
 

@@ -27,7 +27,8 @@ with gubzelk.Source('live.db', timeout=30, max_entries=50) as s:
         with s.transaction() as t:
             for _ in range(draws.randrange(1, 9)):
                 at = draws.randrange(200)
-                t.execute('INSERT OR REPLACE INTO t VALUES (?, ?, ?)', [at, draws.choice(values)(), draws.choice(values)()])
+                row = [at, draws.choice(values)(), draws.choice(values)()]
+                t.execute('INSERT OR REPLACE INTO t VALUES (?, ?, ?)', row)
                 t.execute('DELETE FROM t WHERE id = ?', [draws.randrange(200)])
                 t.execute('INSERT OR REPLACE INTO k VALUES (?, ?)', [str(at), draws.random()])
     sys.stdin.read()

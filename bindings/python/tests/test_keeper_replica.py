@@ -2,7 +2,6 @@
 import copy
 import os
 import pickle
-import sqlite3
 import threading
 import time
 import unittest
@@ -167,9 +166,7 @@ class NotSilent(InFolder):
         self.assertEqual((self.r.status().copies, self.r.status().lag), (2, 0))
 
     def test_a_foreign_write(self):
-        other = sqlite3.connect('live.db')
-        with other:
-            other.execute('INSERT INTO t VALUES (1, 1)')
+        self.other('live.db').execute('INSERT INTO t VALUES (1, 1)')
         self.assertEqual(self.never_idle(), {Step.LAGS})
         self.assertTrue(self.r.status().foreign)
         self.assertIn('others wrote', self.r.status().error)
@@ -180,7 +177,7 @@ class NotSilent(InFolder):
         self.is_equal('copy.db')
 
     def test_a_locked_file(self):
-        other = sqlite3.connect('copy.db', isolation_level=None)
+        other = self.other('copy.db')
         other.execute('BEGIN IMMEDIATE')
         with self.s.transaction() as t:
             t.execute('INSERT INTO t VALUES (1, 1)')
@@ -195,16 +192,14 @@ class NotSilent(InFolder):
         self.assertEqual(self.r.status().copies, 1)
 
     def test_a_foreign_write_to_the_file(self):
-        with sqlite3.connect('copy.db') as other:
-            other.execute('INSERT INTO t VALUES (9, 9)')
-        other.close()
+        self.other('copy.db').execute('INSERT INTO t VALUES (9, 9)')
         self.assertTrue(self.r.wait(20))
         self.is_equal('copy.db')
         self.assertEqual(self.r.status().copies, 2)
 
     def test_a_lock_that_ends_within_a_step(self):
         """A step goes on after a LAGS while it has time."""
-        other = sqlite3.connect('copy.db', isolation_level=None, check_same_thread=False)
+        other = self.other('copy.db', check_same_thread=False)
         other.execute('BEGIN IMMEDIATE')
         with self.s.transaction() as t:
             t.execute('INSERT INTO t VALUES (1, 1)')
@@ -237,9 +232,7 @@ class Opening(InFolder):
 
     def test_files_of_others(self):
         self.source().close()
-        with sqlite3.connect('copy.db') as own:
-            own.execute('CREATE TABLE precious (a)')
-        own.close()
+        self.other('copy.db').execute('CREATE TABLE precious (a)')
         r = self.replica()
         for _ in range(2):
             error = self.refuses(gubzelk.NotReplica, r.step, 0.1)

@@ -11,8 +11,8 @@ from keeper_shared import InFolder, content
 import gubzelk
 from gubzelk import KeeperCode
 
-VALUES = [None, 0, 1, -1, (1 << 63) - 1, -1 << 63, 0.0, -0.0, 0.1, -1.5, 1e300, 5e-324, float('inf'), -float('inf'), '', 'x',
-          'žluťoučký \U0001f600', 'é' * 70000, b'', b'\0', b'\0\xff' * 3, bytes(70000), 3.0, 1 << 53]
+VALUES = [None, 0, 1, -1, (1 << 63) - 1, -1 << 63, 0.0, -0.0, 0.1, -1.5, 1e300, 5e-324, float('inf'), -float('inf'), '',
+          'x', 'žluťoučký \U0001f600', 'é' * 70000, b'', b'\0', b'\0\xff' * 3, bytes(70000), 3.0, 1 << 53]
 
 
 class Transactions(InFolder):
@@ -143,7 +143,7 @@ class Transactions(InFolder):
         found = [row[0] for row in self.s.execute('SELECT a FROM t ORDER BY id')]
         self.assertEqual(list(map(repr, found[:len(VALUES)])), list(map(repr, VALUES)))
         self.assertEqual(self.s.execute('SELECT a, b FROM t WHERE id > 98'), [(1, b'xy'), (b'ac', 0)])
-        read = sqlite3.connect('live.db').execute('SELECT a FROM t ORDER BY id').fetchall()
+        read = self.other('live.db').execute('SELECT a FROM t ORDER BY id').fetchall()
         self.assertEqual(list(map(repr, [row[0] for row in read])), list(map(repr, found)))
 
     def test_values_that_are_refused(self):
@@ -208,7 +208,7 @@ class Opening(InFolder):
         self.assertTrue(error.detail)
         with self.assertRaises(sqlite3.OperationalError):
             gubzelk.Source('absent/live.db')
-        sqlite3.connect('live.db').executescript('CREATE TABLE own_mark (a)')
+        self.other('live.db').executescript('CREATE TABLE own_mark (a)')
         self.refuses(gubzelk.TableTaken, gubzelk.Source, 'live.db', prefix='own_')
         self.source(prefix='other_')
         self.refuses(gubzelk.FileTaken, gubzelk.Source, 'live.db')
@@ -221,7 +221,7 @@ class Opening(InFolder):
 
     def test_locked(self):
         self.source().close()
-        other = sqlite3.connect('live.db', isolation_level=None)
+        other = self.other('live.db')
         other.execute('BEGIN IMMEDIATE')
         error = self.refuses(gubzelk.Locked, gubzelk.Source, 'live.db', timeout=0.3)
         self.assertIn('locked', error.detail)
@@ -276,8 +276,8 @@ class Opening(InFolder):
         s.close()
         s.close()
         self.assertEqual((s.closed, s.in_transaction, repr(s)), (True, False, '<Source, closed>'))
-        for call in [s.begin, s.commit, s.rollback, s.status, s.left, s.replicas, t.__enter__, lambda: s.execute('SELECT 1'),
-                     lambda: t.execute('SELECT 1')]:
+        for call in [s.begin, s.commit, s.rollback, s.status, s.left, s.replicas, t.__enter__,
+                     lambda: s.execute('SELECT 1'), lambda: t.execute('SELECT 1')]:
             with self.assertRaises(gubzelk.KeeperClosed):
                 call()
         with gubzelk.Source('live.db') as source:
