@@ -27,6 +27,8 @@ class KeeperHandle:
     _what = 'handle'
     _handle: Optional[int] = None
     _process = 0
+    #: The thread that has a transaction open: others wait.
+    _opener: Optional[threading.Thread] = None
 
     def __init__(self, library: Optional[Path]) -> None:
         self._library: KeeperLibrary = load_keeper(found_keeper(library))
@@ -62,7 +64,7 @@ class KeeperHandle:
         own thread gets Reentered."""
         self._own()
         me = threading.current_thread()
-        if self._last is me and self._waiting - {me}:
+        if self._last is me and self._opener is not me and self._waiting - {me}:
             time.sleep(PAUSE)
         self._waiting.add(me)
         with self._lock:

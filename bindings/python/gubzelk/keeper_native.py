@@ -1,7 +1,7 @@
 """The shared library of the keeper: where it is found, and the types of its calls and of SQLite's.
 
-It is the operand `library`, or the file that the environment variable GUBZELK_REPLICAS_LIBRARY names, or
-libgubzelk_replicas.so beside the file that GUBZELK_LIBRARY names, or beside this file, or what the system's linker finds.
+It is the operand `library`, or the file that the environment variable GUBZELK_REPLICAS_LIBRARY names. Else it is
+libgubzelk_replicas.so beside the file that GUBZELK_LIBRARY names or beside this file, or what the system's linker finds.
 
 It calls the system's SQLite, libsqlite3.so.0, 3.37 or later with sessions. SQLite's calls are looked up through the
 keeper's library, so that both are of one SQLite."""
@@ -11,6 +11,7 @@ import os
 import warnings
 from ctypes import POINTER, Structure, c_char_p, c_double, c_int, c_int64, c_size_t, c_ubyte, c_uint64, c_void_p
 from functools import lru_cache
+from importlib import import_module
 from typing import Any, Callable, Dict, List, Optional, Tuple, Union
 
 from .native import forks
@@ -176,10 +177,9 @@ def mode() -> int:
 def is_shared(loaded: ctypes.CDLL) -> bool:
     """Whether Python's sqlite3 module calls the same SQLite as the keeper. Two copies in one process don't see each
     other's locks on a file."""
-    import _sqlite3
     try:
-        other = ctypes.CDLL(getattr(_sqlite3, '__file__', None)).sqlite3_open_v2
-    except (AttributeError, OSError):
+        other = ctypes.CDLL(getattr(import_module('_sqlite3'), '__file__', None)).sqlite3_open_v2
+    except (AttributeError, ImportError, OSError):
         return False
     return address(other) == address(loaded.sqlite3_open_v2)
 

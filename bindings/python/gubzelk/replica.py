@@ -12,7 +12,7 @@ from .keeper_records import ReplicaStatus
 from .operands import flag, name
 from .source import text, whole
 
-#: How long one call of the library waits for news, in seconds. Between two calls an interrupt can come, and the calls of
+#: How long one call of the library waits for news, in seconds. Between two calls an interrupt can come, and calls of
 #: other threads.
 SLICE = 0.1
 
@@ -44,10 +44,13 @@ class Replica(KeeperHandle):
         own, source = path_bytes(file, 'file'), path_bytes(source_file, 'source_file')
         super().__init__(library)
         handle = c_void_p()
-        code = self._call('replica_open', byref(handle), own, source, byref(options))
+        try:
+            code = self._call('replica_open', byref(handle), own, source, byref(options))
+        finally:
+            # also where an interrupt comes as soon as it is open
+            self._handle = handle.value
         if code < 0:
             raise self._refusal('replica_open', code)
-        self._handle = handle.value
 
     def _drop(self) -> None:
         handle, self._handle = self._handle, None
@@ -57,8 +60,8 @@ class Replica(KeeperHandle):
     def step(self, timeout: float = 1.0) -> Step:
         """Brings the file further by at most one batch or one slice of a copy, and returns what it did.
 
-        It returns Step.APPLIED at once. Else it tries until `timeout` seconds are over, plus some 0.3 s for an answer or
-        a locked file, and returns the last result: only Step.IDLE says that the file has everything. An interrupt,
+        It returns Step.APPLIED at once. Else it tries until `timeout` seconds are over, plus some 0.3 s for an answer
+        or a locked file, and returns the last result: only Step.IDLE says that the file has everything. An interrupt,
         such as control-C, comes through within some 0.1 s, and other threads run.
 
         Refused: NoMemory, NotReplica, OtherRole."""

@@ -27,7 +27,7 @@ class Source(KeeperHandle):
                 t.execute('INSERT INTO item VALUES (?, ?)', (1, 'lamp'))
 
     The source has a connection of its own. The keeper needs SQLite's pointer to it, and Python's sqlite3 module doesn't
-    give its pointer in any way that lasts. Read the file by sqlite3.connect as you like. What it writes is a foreign
+    give its pointer in any way that lasts. Read the file by sqlite3.connect as you like. What that writes is a foreign
     write: the next `begin` finds it, and all replicas become copies.
 
     Several threads may share a source. A transaction belongs to the thread that began it, and calls of other threads
@@ -35,7 +35,6 @@ class Source(KeeperHandle):
 
     _what = 'source'
     _database: Optional[Database] = None
-    _opener: Optional[threading.Thread] = None
 
     def __init__(self, path: Path, *, prefix: Optional[str] = None, socket: Optional[Path] = None,
                  max_bytes: SupportsIndex = 0, max_entries: SupportsIndex = 0, set_wal: bool = True,
@@ -59,12 +58,15 @@ class Source(KeeperHandle):
         super().__init__(library)
         self._database = Database(self._library.sqlite, found)
         handle = c_void_p()
-        code = self._patiently('source_open', byref(handle), self._database.pointer, byref(options))
+        try:
+            code = self._patiently('source_open', byref(handle), self._database.pointer, byref(options))
+        finally:
+            # also where an interrupt comes as soon as it is open
+            self._handle = handle.value
         if code < 0:
             error = self._refusal('source_open', code)
             self._drop()
             raise error
-        self._handle = handle.value
 
     def _drop(self) -> None:
         handle, self._handle = self._handle, None
