@@ -32,11 +32,11 @@ class KeeperHandle:
 
     def __init__(self, library: Optional[Path]) -> None:
         self._library: KeeperLibrary = load_keeper(found_keeper(library))
-        self._lock = threading.RLock()
+        self._lock, self._calling = threading.RLock(), threading.Lock()
         self._changed = threading.Condition(self._lock)
         self._waiting: Set[threading.Thread] = set()
         self._last: Optional[threading.Thread] = None
-        self._inside, self._ends, self._process = False, False, os.getpid()
+        self._ends, self._process = False, os.getpid()
         handles.add(self)
 
     def __del__(self) -> None:
@@ -59,9 +59,9 @@ class KeeperHandle:
     def _comes_in(self, me: threading.Thread) -> None:
         """Waits until the thread may make calls."""
 
-    def _do(self, work: Callable[[int], Result]) -> Result:
-        """Does a work with the handle, while no other thread uses it. A signal handler that interrupts a call of its
-        own thread gets Reentered."""
+    def _do(self, work: Callable[[int], Result], waits: bool = True) -> Result:
+        """Does a work with the handle, while no other thread uses it. With `waits` it waits for the end of another
+        thread's transaction. A signal handler that interrupts a call of its own thread gets Reentered."""
         self._own()
         me = threading.current_thread()
         if self._last is me and self._opener is not me and self._waiting - {me}:
@@ -69,19 +69,17 @@ class KeeperHandle:
         self._waiting.add(me)
         with self._lock:
             try:
-                self._comes_in(me)
+                if waits:
+                    self._comes_in(me)
             finally:
                 self._waiting.discard(me)
-            if self._inside:
+            if self._calling.locked():
                 raise Reentered(f'this thread is inside a call of this {self._what}')
             if self._handle is None:
                 raise KeeperClosed(f'the {self._what} is closed')
             self._last = me
-            try:
-                self._inside = True
+            with self._calling:
                 return work(self._handle)
-            finally:
-                self._inside = False
 
     def _call(self, name: str, *words: Any) -> int:
         """Makes a call, and returns its code."""
@@ -130,7 +128,7 @@ def close_all() -> None:
     for handle in list(handles):
         if handle._process == os.getpid():
             handle._ends = True
-            if handle._lock.acquire(timeout=1.0) and not handle._inside:
+            if handle._lock.acquire(timeout=1.0) and not handle._calling.locked():
                 handle._drop()
 
 

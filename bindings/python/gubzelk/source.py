@@ -30,8 +30,8 @@ class Source(KeeperHandle):
     give its pointer in any way that lasts. Read the file by sqlite3.connect as you like. What that writes is a foreign
     write: the next `begin` finds it, and all replicas become copies.
 
-    Several threads may share a source. A transaction belongs to the thread that began it, and calls of other threads
-    wait until it ends. Only the process that opened the source uses it."""
+    Several threads may share a source. A transaction belongs to the thread that began it, and other threads wait until
+    it ends, but for `status`, `replicas` and `left`. Only the process that opened the source uses it."""
 
     _what = 'source'
     _database: Optional[Database] = None
@@ -222,18 +222,18 @@ class Source(KeeperHandle):
             self._call('source_status', handle, byref(row))
             return SourceStatus(bytes(row.name).hex(), row.front, row.entries, row.bytes, row.held, row.brokers,
                                 text(row.reason), row.replicas, row.left)
-        return self._do(reads)
+        return self._do(reads, waits=False)
 
     def replicas(self) -> Iterator[Known]:
         """The replicas that the source knows, all as of the call."""
         return iter(self._do(lambda handle: [
             Known(bytes(row.id).hex(), row.at, row.cursor, None if row.lag == UNKNOWN else row.lag, row.since)
-            for row in self._listed('source_replica', handle, KnownRow)]))
+            for row in self._listed('source_replica', handle, KnownRow)], waits=False))
 
     def left(self) -> Iterator[Left]:
         """What doesn't travel to replicas, the latest first: 64 at most."""
         return iter(self._do(lambda handle: [Left(text(row.table), text(row.key), text(row.why))
-                                             for row in self._listed('source_left', handle, LeftRow)]))
+                                             for row in self._listed('source_left', handle, LeftRow)], waits=False))
 
     def _listed(self, call: str, handle: int, kind: Callable[[], Any]) -> Iterable[Any]:
         """The rows of a list, each valid until the next one."""

@@ -64,6 +64,10 @@ class Threads(InFolder):
         with self.s.transaction() as t:
             begun.set()
             time.sleep(0.2)
+            reads = threading.Thread(target=lambda: (self.s.status(), self.s.replicas(), self.s.left()))
+            reads.start()
+            reads.join(10)
+            self.assertFalse(reads.is_alive())
             t.execute('UPDATE t SET n = 5 WHERE id = 0')
             order.append('first')
         thread.join()
@@ -151,7 +155,7 @@ class Threads(InFolder):
         r.status()
         self.assertEqual(errors, [gubzelk.Reentered] * 3)
         r._library.calls['replica_status'] = call
-        self.assertFalse(r._inside)
+        self.assertFalse(r._calling.locked())
 
 
 class Interrupts(InFolder):
