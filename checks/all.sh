@@ -67,9 +67,10 @@ check awk sh checks/names.sh
 check awk sh checks/files.sh
 check '' python3 checks/proofs.py
 check '' python3 checks/embed.py
+check git python3 checks/links.py
 check '' python3 bench/plot.py --check
 check '' python3 checks/definitions.py
-check '' sh docs/definitions.sh
+check '' sh docs/proof/definitions.sh
 check '' python3 checks/claims.py
 check '' python3 checks/canonical.py
 check '' python3 checks/groups.py

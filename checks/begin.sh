@@ -1,4 +1,4 @@
-# What the scripts of checks/, docs/, refused/ and bench/ begin with, which read this file. It goes to the top of the
+# What the scripts of checks/, docs/proof/, refused/ and bench/ begin with, which read this file. It goes to the top of the
 # repository, and makes the folder $work, which is removed when the script ends. RT names the prover's command where it isn't `rt`.
 : "${RT:=rt}"
 # how many checks were made, and how many of them failed

@@ -1,13 +1,13 @@
 #!/usr/bin/env python3
-"""Checks docs/PROVED.md, docs/refusals.tsv and docs/planted.tsv against the sources.
+"""Checks README.md, and PROVED.md, refusals.tsv and planted.tsv of docs/proof/, against the sources.
 
-Of docs/PROVED.md: each law that is named as `laws::NAME` is one of a crate of its section, or of any crate where the section
+Of the two pages: each law that is named as `laws::NAME` is one of a crate of its section, or of any crate where the section
 names none. Where clauses follow a function and a colon, the function has these.
-Of docs/refusals.tsv: each call is a public function of its crate, and each clause is one of its contract, where `result` is
+Of refusals.tsv: each call is a public function of its crate, and each clause is one of its contract, where `result` is
 the clause without a name. Each test is a function or a module of its crate. Each function with a contract that other crates
 can call, and that returns a Result or an Option, has a row. A function counts if the crate's root exports it or its type, or
 if C can call it. Laws don't count.
-Of docs/planted.tsv: each crate is there, and has one row.
+Of planted.tsv: each crate is there, and has one row.
     checks/claims.py            prints what is wrong, a line each, and ends with status 1 if there is anything
 """
 import re
@@ -76,8 +76,8 @@ def exports(crate):
 
 
 def rows(name, columns):
-    """The rows of a file of docs/, without its comments and without the names of its columns."""
-    lines = [line for line in (ROOT / "docs" / name).read_text().splitlines() if not line.startswith("#")]
+    """The rows of a file of docs/proof/, without its comments and without the names of its columns."""
+    lines = [line for line in (ROOT / "docs/proof" / name).read_text().splitlines() if not line.startswith("#")]
     for line in lines[1:]:
         cells = line.split("\t")
         if len(cells) != columns:
@@ -85,24 +85,24 @@ def rows(name, columns):
         yield cells
 
 
-def wrong_proved(known, laws):
-    """What is wrong in docs/PROVED.md."""
-    for section in re.split(r"^## ", (ROOT / "docs/PROVED.md").read_text(), flags=re.M):
+def wrong_page(page, known, laws):
+    """What is wrong in README.md or in PROVED.md."""
+    for section in re.split(r"^## ", page.read_text(), flags=re.M):
         text = " ".join(section.split())
         crates = [crate for crate in WORD.findall(section.partition("\n")[0]) if crate in known] or list(known)
         for crate, law in re.findall(r"`(?:(\w+)::)?laws::(\w+)`", text):
             if not any(law in laws[one] for one in ([crate] if crate else crates)):
-                yield f"PROVED.md: no law {law}"
+                yield f"{page.name}: no law {law}"
         for call, clauses in re.findall(r"`((?:\w+::)*\w+)`: ((?:`\w+`(?:, )?)+)", text):
             named = [f for crate in known for f in known[crate] if call in (f.call, f.name)]
             there = named + [laws[crate][name] for crate in laws for name in laws[crate] if call.endswith(f"laws::{name}")]
             for clause in re.findall(r"\w+", clauses):
                 if call not in known and not any(clause in f.clauses for f in there):
-                    yield f"PROVED.md: {call} has no clause {clause}"
+                    yield f"{page.name}: {call} has no clause {clause}"
 
 
 def wrong_refusals(known, exported):
-    """What is wrong in docs/refusals.tsv."""
+    """What is wrong in refusals.tsv."""
     named = set()
     for crate, call, _, clauses, tests, _ in rows("refusals.tsv", 6):
         there = [f for f in known.get(crate, []) if f.call == call and f.is_public]
@@ -127,7 +127,7 @@ def wrong_refusals(known, exported):
 
 
 def wrong_planted():
-    """What is wrong in docs/planted.tsv."""
+    """What is wrong in planted.tsv."""
     named = set()
     for crate, _, _, _, _ in rows("planted.tsv", 5):
         if not (ROOT / "crates" / crate).is_dir():
@@ -146,7 +146,9 @@ def main():
         exported[crate.name] = exports(crate)
     if not any(known.values()) or not list(rows("refusals.tsv", 6)) or not list(rows("planted.tsv", 5)):
         sys.exit("claims.py: no function or no row was found")
-    wrong = [*wrong_proved(known, laws), *wrong_refusals(known, exported), *wrong_planted()]
+    pages = [ROOT / "README.md", ROOT / "docs/proof/PROVED.md"]
+    wrong = [line for page in pages for line in wrong_page(page, known, laws)]
+    wrong += [*wrong_refusals(known, exported), *wrong_planted()]
     for line in wrong:
         print(f"claims.py: {line}", file=sys.stderr)
     sys.exit(1 if wrong else 0)

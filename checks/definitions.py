@@ -1,10 +1,10 @@
 #!/usr/bin/env python3
 """Lists definitions of specs/ that a public contract cites and nothing explains, a line each.
 
-A comment explains a definition, its own or that of its group (specs.py), and so does an entry of docs/DEFINITIONS.md. A
+A comment explains a definition, its own or that of its group (specs.py), and so does an entry of DEFINITIONS.md. A
 contract is what `ensures` and `requires` say of a function that other crates can call: one that the crate's root exports, or
 a method of a type or trait that it exports. A definition counts if its file is one of specs/: types that the source declares
-have their docstrings. Names of docs/DEFINITIONS.md that its files don't define are listed, too. Nothing is the right answer.
+have their docstrings. Names of DEFINITIONS.md that its files don't define are listed, too. Nothing is the right answer.
     checks/definitions.py       ends with status 1 where it lists a name
 """
 import re
@@ -107,7 +107,7 @@ def main():
         for name in names:
             found = [one for one in places.get(name, []) if any(map(one.stands_in, files))]
             explained.update((one.crate, one.file, name) for one in found)
-            wrong += [] if found else [f"{name} (docs/DEFINITIONS.md: not in {', '.join(files)})"]
+            wrong += [] if found else [f"{name} (docs/proof/DEFINITIONS.md: not in {', '.join(files)})"]
     for name, where in uses:
         crate, file = where.split(", ")
         # a file can hand on what another file of its crate defines

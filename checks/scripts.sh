@@ -1,6 +1,6 @@
 #!/bin/sh
-# Checks that the scripts of checks/, docs/, refused/ and bench/ fail where they would test nothing. It tries each on a copy of
-# the repository with broken parts, such as a program that only exits: it must end with a status other than 0, and say why
+# Checks that the scripts of checks/, docs/proof/, refused/ and bench/ fail where they would test nothing. It tries each on
+# a copy of the repository with broken parts, such as a program that only exits: it must end with a status other than 0, and say why
 # on standard error. One line for each trial.
 #   sh checks/scripts.sh        needs gcc, g++, valgrind, python3, git, sqlite3 and its library; no prover and no built program
 . "$(dirname "$0")/begin.sh"
@@ -57,9 +57,9 @@ fails 'plot.py, another word' usage python3 bench/plot.py --draw
 fails 'drives.py, no such folder' 'no folder' env PROGRAM=/bin/true python3 checks/drives.py none
 fails 'replicate/run.sh, one operand' usage sh examples/replicate/run.sh none
 fails 'install.sh, no PREFIX' usage sh packaging/install.sh
-fails 'table.sh, no NAME' usage sh docs/table.sh
-fails 'table.sh, no such file' 'no docs/none.tsv' sh docs/table.sh none
-fails 'refusals.sh, no such crate' 'no row of none' sh docs/refusals.sh none
+fails 'table.sh, no NAME' usage sh docs/proof/table.sh
+fails 'table.sh, no such file' 'no docs/proof/none.tsv' sh docs/proof/table.sh none
+fails 'refusals.sh, no such crate' 'no row of none' sh docs/proof/refusals.sh none
 fails 'packaging/release.sh, two operands' usage sh packaging/release.sh one two
 fails 'pages.py, no PROGRAM' usage python3 packaging/pages.py out
 fails 'wheel.py, no LIBRARY' usage python3 packaging/wheel.py
@@ -251,21 +251,25 @@ fails 'edit_list.py, a line that is no part of an edit' 'out of place' python3 c
 rm crates/*/on-demand.edits
 fails 'edit_list.py, no lists' 'no crate' python3 checks/edit_list.py . --some 3 7
 fails 'files.sh, no such crate' 'no src/lib.rt' sh checks/files.sh none
-fails 'definitions.sh, no such name' 'neither a definition' sh docs/definitions.sh none
+fails 'definitions.sh, no such name' 'neither a definition' sh docs/proof/definitions.sh none
 fails 'proofs.py, no such crate' 'no crate' python3 checks/proofs.py none
 find crates -name '*.antt' | while read -r file; do : >"$file"; done
 fails 'names.sh, no definitions' 'no definition' sh checks/names.sh
 fails 'definitions.py, no definitions' 'no definition' python3 checks/definitions.py
-fails 'definitions.sh, no definitions' 'no definition' sh docs/definitions.sh
+fails 'definitions.sh, no definitions' 'no definition' sh docs/proof/definitions.sh
 fails 'proofs.py, lemma files without a comment' 'no comment' python3 checks/proofs.py
 fails 'embed.py, an empty proof' 'not in the program' python3 checks/embed.py
-sed -i 's/laws::every_text/laws::no_text/' docs/PROVED.md
+printf '`keeper/none.c`, [there](EMBED.md#nowhere), (docs/C.md, Nothing)\n' >>docs/SCRIPT.md
+fails 'links.py, a path that is not there' 'no keeper/none.c' python3 checks/links.py
+fails 'links.py, an anchor that is not there' 'no heading for EMBED.md#nowhere' python3 checks/links.py
+fails 'links.py, a section that is not there' 'docs/C.md has no heading Nothing' python3 checks/links.py
+sed -i 's/laws::every_text/laws::no_text/' docs/proof/PROVED.md
 fails 'claims.py, no such law' 'no law no_text' python3 checks/claims.py
-sed -i '/Schema::admits\t/d' docs/refusals.tsv
+sed -i '/Schema::admits\t/d' docs/proof/refusals.tsv
 fails 'claims.py, a call without a row' 'Schema::admits has no row' python3 checks/claims.py
-sed -i 's/\tresult\t/\tanother\t/' docs/refusals.tsv
+sed -i 's/\tresult\t/\tanother\t/' docs/proof/refusals.tsv
 fails 'claims.py, no such clause' 'has no clause another' python3 checks/claims.py
-: >docs/planted.tsv
+: >docs/proof/planted.tsv
 fails 'claims.py, no row' 'no row was found' python3 checks/claims.py
 sed -i '$s/[.]/0./' bench/figures/jobs.csv
 fails 'plot.py, a figure that its picture does not show' 'jobs.svg is not' python3 bench/plot.py --check

@@ -1,5 +1,5 @@
 #!/usr/bin/env python3
-"""Reads the definitions of crates/*/specs, and prints them: sh docs/definitions.sh [NAME|CRATE]
+"""Reads the definitions of crates/*/specs, and prints them: sh docs/proof/definitions.sh [NAME|CRATE]
 
 A comment stands directly above its definition. The definitions after it share it, up to the next comment, unless it is that
 of a record or of data: they are the parts of the last one, or variants of one thing.
@@ -12,12 +12,12 @@ from dataclasses import dataclass
 from pathlib import Path
 
 ROOT = Path(__file__).resolve().parent.parent
-BOOK = ROOT / "docs/DEFINITIONS.md"
+BOOK = ROOT / "docs/proof/DEFINITIONS.md"
 # a definition begins: its keywords, and its name with parameters or with a type
 START = re.compile(r"( *)(?:(?:abbrev|unfoldable|pub) )*(?:(?:record|data) (\S+) |([^\s:({]+) :(?: |$))")
 # a comment that goes on from the one before it
 GOES_ON = re.compile(r"([Tt]he same|[Tt]hose|[Oo]f (a|the)|[Ii]ts)\b")
-# an entry of docs/DEFINITIONS.md
+# an entry of docs/proof/DEFINITIONS.md
 ENTRY = re.compile(r"- (\*[^(]*) \(([^)]*)\): (.*)")
 ITALIC = re.compile(r"\*(\S+?)\*")
 
@@ -35,7 +35,7 @@ class Definition:
     type: str
 
     def stands_in(self, place):
-        """Whether this is its file, as docs/DEFINITIONS.md names one."""
+        """Whether this is its file, as docs/proof/DEFINITIONS.md names one."""
         return place == f"{self.crate}/{self.file}"
 
 
@@ -93,7 +93,7 @@ def all_definitions():
 
 
 def book_entries():
-    """The entries of docs/DEFINITIONS.md: the names, the places as CRATE/FILE, and the text."""
+    """The entries of docs/proof/DEFINITIONS.md: the names, the places as CRATE/FILE, and the text."""
     crate, text = "", ""
     for line in BOOK.read_text().splitlines() + [""]:
         if text and line.startswith("  "):
@@ -127,14 +127,14 @@ def show(one, entries):
     print(filled(one.type, "    "))
     for names, files, text in entries:
         if one.name in names and any(map(one.stands_in, files)):
-            print(filled("In docs/DEFINITIONS.md: " + text, "    "))
+            print(filled("In docs/proof/DEFINITIONS.md: " + text, "    "))
     print()
 
 
 def main():
     signal.signal(signal.SIGPIPE, signal.SIG_DFL)
     if len(sys.argv) > 2:
-        sys.exit("usage: sh docs/definitions.sh [NAME|CRATE]")
+        sys.exit("usage: sh docs/proof/definitions.sh [NAME|CRATE]")
     found = all_definitions()
     if not found:
         sys.exit("definitions.sh: no definition was found")

@@ -60,16 +60,15 @@ packed() {
 # ---- all files, as they lie below a prefix
 name=gubzelk-$version-linux-x86_64
 tree=$work/$name
-mkdir -p "$work/dist" "$tree/bin" "$tree/share/gubzelk/docs"
+mkdir -p "$work/dist" "$tree/bin" "$tree/share/gubzelk/docs/proof"
 DESTDIR=$tree CFLAGS="-ffile-prefix-map=$top=." sh packaging/install.sh /
 cp $program "$tree/bin/rb_run"
 chmod 755 "$tree/bin/rb_run"
 python3 packaging/pages.py "$tree" $program "$tree"/include/gubzelk/*.h
 cp README.md CHANGELOG.md VERSION "$tree/share/gubzelk"
-for page in docs/*.md; do
-    # those for who changes the code, and for who has the toolchain
-    case $page in docs/ARCHITECTURE.md | docs/DECISIONS.md | docs/PROVING.md | docs/EMBED.md) ;;
-    *) cp "$page" "$tree/share/gubzelk/docs" ;; esac
+# the pages for users, without the one that needs the toolchain; of those for reviewers what users' pages name
+for page in docs/*.md docs/proof/PROVED.md docs/proof/DEFINITIONS.md; do
+    [ "$page" = docs/EMBED.md ] || cp "$page" "$tree/share/gubzelk/$page"
 done
 copied examples "$tree/share/gubzelk/examples"
 if [ -e bindings/python/examples ]; then copied bindings/python/examples "$tree/share/gubzelk/examples/python"; fi

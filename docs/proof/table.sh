@@ -1,10 +1,10 @@
 #!/bin/sh
-# Prints a file of docs/ with tabs between its columns as a table: its comments, if no crate is named, and its rows. Each
-# column is as wide as its widest cell. refusals.sh and planted.sh call it.
-#   sh docs/table.sh NAME [CRATE]    docs/NAME.tsv, all of it where no crate is named
-. "$(dirname "$0")/../checks/begin.sh"
-[ $# -eq 1 ] || [ $# -eq 2 ] || fail 'usage: sh docs/table.sh NAME [CRATE]' 2
-[ -e "docs/$1.tsv" ] || fail "no docs/$1.tsv" 2
+# Prints a file of docs/proof/ with tabs between its columns as a table: its comments, if no crate is named, and its
+# rows. Each column is as wide as its widest cell. refusals.sh and planted.sh call it.
+#   sh docs/proof/table.sh NAME [CRATE]    docs/proof/NAME.tsv, all of it where no crate is named
+. "$(dirname "$0")/../../checks/begin.sh"
+[ $# -eq 1 ] || [ $# -eq 2 ] || fail 'usage: sh docs/proof/table.sh NAME [CRATE]' 2
+[ -e "docs/proof/$1.tsv" ] || fail "no docs/proof/$1.tsv" 2
 awk -F '\t' -v crate="${2:-}" '
     /^#/ { if (crate == "") print; next }
     n > 0 && crate != "" && $1 != crate { next }
@@ -22,4 +22,4 @@ awk -F '\t' -v crate="${2:-}" '
             sub(/ +$/, "", line)
             print line
         }
-    }' "docs/$1.tsv" || fail "no row of $2" 2
+    }' "docs/proof/$1.tsv" || fail "no row of $2" 2

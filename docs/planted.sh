@@ -1,4 +1,0 @@
-#!/bin/sh
-# Prints docs/planted.tsv as a table: which wrong bodies the contracts of each crate let through.
-#   sh docs/planted.sh [CRATE]       all crates where none is named
-sh "$(dirname "$0")/table.sh" planted "$@"
