@@ -28,7 +28,7 @@ export PKG_CONFIG_PATH="$prefix/lib/pkgconfig"
 
 # all that is installed, but what keeper/ adds
 listed() {
-    (cd "$prefix" && find . ! -type d | grep -v 'keeper\|gubzelk\.h' | LC_ALL=C sort) >"$work/files" &&
+    (cd "$prefix" && find . ! -type d | grep -v 'keeper\|replicas\|gubzelk\.h' | LC_ALL=C sort) >"$work/files" &&
         cmp "$work/files" - <<END
 ./include/gubzelk/broker.h
 ./include/gubzelk/changeset.h
@@ -151,6 +151,15 @@ shows() {
     [ "$(wc -l <"$work/declared")" -gt 30 ] && cmp "$work/declared" "$work/shown"
 }
 says 'the shared object shows the calls, and nothing else' shows
+
+# the same of gubzelk.h; and it needs SQLite, which isn't inside
+shows_replicas() {
+    sed -n 's/^[a-z ]*[ *]\(gz_[a-z_]*\)(.*/\1/p' keeper/gubzelk.h | sort >"$work/declared"
+    nm -D --defined-only "$prefix/lib/libgubzelk_replicas.so" | awk '{ print $3 }' | sort >"$work/shown"
+    [ "$(wc -l <"$work/declared")" = 13 ] && cmp "$work/declared" "$work/shown" &&
+        readelf -d "$prefix/lib/libgubzelk_replicas.so" | grep -q '(NEEDED).*\[libsqlite3\.so\.0\]'
+}
+[ ! -e keeper ] || says 'that of sources and replicas shows the calls, and nothing else' shows_replicas
 
 # loads: a program of another language loads it
 loads() {

@@ -145,6 +145,7 @@ says 'nothing is left' nothing_left
 
 # ---- the wheel
 if [ -e bindings/python ]; then
+    [ -e keeper ] && keeper=yes || keeper=
     says 'the wheel is installed' lines 'pip install --no-index --break-system-packages /root/release/gubzelk-*.whl'
     says 'Python opens a broker' lines "cd / && python3 -c '
 import gubzelk, importlib.metadata, os
@@ -158,7 +159,13 @@ with gubzelk.Broker([(\"t\", (1, 0))]) as broker:
     for delivery in broker.deliveries(subscription):
         with delivery:
             delivery.accept()
-            delivery.ack()'"
+            delivery.ack()
+if \"$keeper\":
+    os.chdir(\"/tmp\")
+    with gubzelk.Source(\"live.db\") as source, gubzelk.Replica(\"copy.db\", \"live.db\") as replica:
+        with source.transaction() as t: t.execute(\"CREATE TABLE t (a INTEGER PRIMARY KEY)\")
+        assert replica.wait(60)
+    for file in [\"live.db\", \"copy.db\", \"live.db-gz-lock\", \"copy.db-gz-lock\"]: os.remove(file)'"
     says 'the wheel is removed' lines 'pip uninstall -y --break-system-packages gubzelk'
     says 'nothing is left' nothing_left
 fi

@@ -73,12 +73,23 @@ if [ -e keeper ]; then
     packages="$packages gubzelk-keeper"
 fi
 
-# One shared library with both. Its soname has the first number of the version.
-real=libgubzelk.so.$version soname=libgubzelk.so.${version%%.*}
-$CC -shared -o "$lib/$real" -Wl,-soname,"$soname" -Wl,--version-script=packaging/exports.map -Wl,-s \
-    -Wl,--whole-archive $broker $changeset -Wl,--no-whole-archive "$heap" || fail 'no shared object is made' 1
-ln -sf "$real" "$lib/$soname" && ln -sf "$soname" "$lib/libgubzelk.so" || exit 1
-chmod 644 "$include"/*.h "$lib"/lib*.a "$lib/$real" || exit 1
+# shares NAME MAP WORDS..: a shared library that shows what MAP names. Its soname has the first number of the version
+shares() {
+    name=$1 map=$2
+    shift 2
+    $CC -shared -o "$lib/$name.so.$version" -Wl,-soname,"$name.so.${version%%.*}" -Wl,--version-script="$map" -Wl,-s \
+        "$@" || fail "no $name.so is made" 1
+    ln -sf "$name.so.$version" "$lib/$name.so.${version%%.*}" && ln -sf "$name.so.${version%%.*}" "$lib/$name.so" || exit 1
+    chmod 644 "$lib/$name.so.$version" || exit 1
+}
+
+shares libgubzelk packaging/exports.map -Wl,--whole-archive $broker $changeset -Wl,--no-whole-archive "$heap"
+if [ -e keeper ]; then
+    # the calls of gubzelk.h. The broker is inside, and SQLite is the system's. -lgubzelk_keeper is the static library
+    shares libgubzelk_replicas packaging/exports-replicas.map -Wl,--whole-archive "$lib/libgubzelk_keeper.a" \
+        -Wl,--no-whole-archive $broker "$heap" -Wl,-z,defs -lsqlite3 -lpthread
+fi
+chmod 644 "$include"/*.h "$lib"/lib*.a || exit 1
 
 # The files for pkg-config name no folder outside of their own, so that all may be moved together.
 for name in $packages; do

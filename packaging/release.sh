@@ -111,17 +111,22 @@ done
 size=$(($(find "$deb/usr" -type f -printf '%s\n' | awk '{ sum += $1 } END { print sum }') / 1024))
 sed -e "s|@VERSION@|$version|" -e "s|@DEPENDS@|$depends|" -e "s|@SIZE@|$size|" packaging/control.in >"$deb/DEBIAN/control"
 echo 'activate-noawait ldconfig' >"$deb/DEBIAN/triggers"
-echo "libgubzelk ${version%%.*} gubzelk (>= $version)" >"$deb/DEBIAN/shlibs"
+for library in "$tree"/lib/libgubzelk*.so; do
+    library=${library##*/}
+    echo "${library%.so} ${version%%.*} gubzelk (>= $version)"
+done >"$deb/DEBIAN/shlibs"
 (cd "$deb" && find usr -type f | sort | xargs md5sum) >"$deb/DEBIAN/md5sums"
 dated "$deb"
 dpkg-deb --root-owner-group --threads-max=1 -Zxz --build "$deb" "$work/dist/gubzelk_${version}_amd64.deb" >/dev/null
 
 # ---- the wheel
 if [ -e bindings/python ]; then
-    minor=$(glibc "$tree/lib/libgubzelk.so.$version" | cut -d . -f 2)
+    # the broker's library, and that of sources and replicas where there is one
+    set -- "$tree"/lib/libgubzelk*.so."$version"
+    minor=$(glibc "$@" | cut -d . -f 2)
     # pip knows glibc 2.5 and later
     [ "${minor:?}" -ge 5 ] || minor=5
-    python3 packaging/wheel.py "$tree/lib/libgubzelk.so.$version" "$work/dist" "$minor"
+    python3 packaging/wheel.py "$work/dist" "$minor" "$@"
 fi
 
 # ---- the crates, with the static libraries, which Cargo finds where it builds them in their own folder

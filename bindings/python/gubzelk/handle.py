@@ -29,7 +29,9 @@ class Handle:
         for row, table in zip(rows, tables):
             row.name, row.name_len = table.encoded, len(table.encoded)
             row.key, row.columns = table.key, len(table.key)
-        self._library, self._lock, self._inside, self._process = library, threading.RLock(), False, os.getpid()
+        self._library, self._lock, self._process = library, threading.RLock(), os.getpid()
+        # held during a call: an interrupt at any moment leaves no lock behind that `with` has taken
+        self._calling = threading.Lock()
         self._room = ctypes.create_string_buffer(ROOM)
         handle, why = c_void_p(), Numbers()
         code = library.open(byref(handle), byref(LimitsRow(*limits)), rows, len(tables), byref(why))
@@ -54,7 +56,7 @@ class Handle:
 
     def _outside(self) -> None:
         """Refuses a signal handler or a finalizer that interrupts a call of its own thread. Other threads wait."""
-        if self._inside:
+        if self._calling.locked():
             raise Reentered('this thread is inside a call of this broker')
 
     def _make(self, name: str, words: Sequence[Any]) -> int:
@@ -75,11 +77,8 @@ class Handle:
         self._own()
         with self._lock:
             self._outside()
-            try:
-                self._inside = True
+            with self._calling:
                 return self._make(name, words)
-            finally:
-                self._inside = False
 
     def _number(self, name: str, *words: Any) -> int:
         """Makes a call that writes one number."""
@@ -92,16 +91,13 @@ class Handle:
         self._own()
         with self._lock:
             self._outside()
-            try:
-                self._inside = True
+            with self._calling:
                 length = self._make(name, (*words, self._room, ROOM))
                 if length <= ROOM:
                     return ctypes.string_at(self._room, length)
                 room = ctypes.create_string_buffer(length)
                 self._make(name, (*words, room, length))
                 return room.raw
-            finally:
-                self._inside = False
 
     # ---- the handle itself
 
@@ -110,12 +106,9 @@ class Handle:
         self._own()
         with self._lock:
             self._outside()
-            try:
-                self._inside = True
+            with self._calling:
                 if self._handle is not None:
                     self._library.shut(self._handle)
-            finally:
-                self._inside = False
 
     def free(self) -> None:
         """Frees the handle and all that it leads to (broker_free). Each later call raises Shut. A second free does

@@ -10,11 +10,11 @@ class LibraryError(OSError):
 
 
 class WrongProcess(RuntimeError):
-    """The broker was opened before a fork. Only the process that opened it makes its calls."""
+    """The broker, the source or the replica was opened before a fork. Only the process that opened it makes its calls."""
 
 
 class Reentered(RuntimeError):
-    """A signal handler or a finalizer makes a call while the same thread makes one of the same broker."""
+    """A signal handler or a finalizer makes a call while the same thread makes one of the same broker, source or replica."""
 
 
 class Refused(Exception):
