@@ -20,7 +20,7 @@ int gz_lags_sqlite(gz_replica *r, sqlite3 *db, int rc, const char *what) {
     /* the connection's words are of its last call, which may be another */
     const char *words = db && sqlite3_extended_errcode(db) == rc ? sqlite3_errmsg(db) : sqlite3_errstr(rc);
     snprintf(r->error, sizeof r->error, "%s: %s", what, words);
-    return (rc & 0xff) == SQLITE_NOMEM ? GZ_NO_MEMORY : GZ_LAGS;
+    return (rc & 0xff) == SQLITE_NOMEM || rc == SQLITE_IOERR_NOMEM ? GZ_NO_MEMORY : GZ_LAGS;
 }
 
 void gz_need_copy(gz_replica *r, const char *why) {
@@ -38,6 +38,7 @@ bool gz_write_lock(gz_replica *r, bool copying) {
 
 void gz_close_file(gz_replica *r) {
     gz_drop_copy(r);
+    for (int i = 0; i < GZ_FILE_STATEMENTS; i++) sqlite3_finalize(r->statement[i]), r->statement[i] = NULL;
     sqlite3_close(r->db), r->db = NULL, r->has_place = false, gz_free_tables(&r->tables);
 }
 
@@ -91,7 +92,7 @@ static int look_at_file(gz_replica *r) {
         gz_close_file(r), gz_hang_up(r);
         return gz_open_file(r);
     }
-    int rc = gz_number(r->db, &version, sqlite3_mprintf("PRAGMA main.data_version"));
+    int rc = gz_file_number(r, GZ_FILE_DATA_VERSION, &version);
     if (rc) return gz_lags_sqlite(r, r->db, rc, "the file");
     if (r->has_place && version != r->data_version) gz_need_copy(r, "another connection wrote to the file"), *r->error = 0;
     r->data_version = version;
