@@ -92,16 +92,21 @@ int gz_begin(gz_source *s) {
     return gz_code(rc);
 }
 
-int gz_rollback(gz_source *s) {
-    uint32_t version = s->file_version;
-    if (!s->is_open) return GZ_NO_TRANSACTION;
-    if (sqlite3_get_autocommit(s->db)) return end_session(s), GZ_NO_TRANSACTION;
-    int rc = gz_do(s, GZ_ROLLBACK);
-    if (!sqlite3_get_autocommit(s->db)) return gz_code(rc);
+/* The transaction ended without a commit. What it changed counts as changes of the connection, and an error that empties
+ * SQLite's cache counts as a version of the file. Where nobody has committed since the last gz_commit, these are none. */
+static void end_uncommitted(struct gz_source *s) {
+    int64_t data_version = s->data_version, changes = s->changes;
+    uint32_t file_version = s->file_version, commits = s->shared.commits;
     end_session(s);
-    sqlite3_file_control(s->db, "main", SQLITE_FCNTL_DATA_VERSION, &version);
-    /* what is rolled back counts as changes, and as none of the file */
-    if (version == s->file_version) s->changes = sqlite3_total_changes64(s->db);
+    bool is_same = gz_commits(&s->watch) == commits && !gz_take_versions(s) && gz_commits(&s->watch) == commits;
+    if (!is_same) s->data_version = data_version, s->changes = changes, s->file_version = file_version;
+}
+
+int gz_rollback(gz_source *s) {
+    if (!s->is_open) return GZ_NO_TRANSACTION;
+    if (sqlite3_get_autocommit(s->db)) return end_uncommitted(s), GZ_NO_TRANSACTION;
+    int rc = gz_do(s, GZ_ROLLBACK);
+    if (sqlite3_get_autocommit(s->db)) end_uncommitted(s);
     return gz_code(rc);
 }
 
@@ -248,7 +253,7 @@ static void hand_out(struct gz_source *s, struct commit *it) {
 int gz_commit(gz_source *s) {
     struct commit it = {0};
     if (!s->is_open) return GZ_NO_TRANSACTION;
-    if (sqlite3_get_autocommit(s->db)) return end_session(s), GZ_NO_TRANSACTION;
+    if (sqlite3_get_autocommit(s->db)) return end_uncommitted(s), GZ_NO_TRANSACTION;
     int rc = decide(s, &it);
     if (!rc && it.has_tables) rc = gz_note_tables(s, &it.tables);
     if (!rc && !it.is_empty) set_pending(s, &it);
@@ -260,7 +265,7 @@ int gz_commit(gz_source *s) {
         s->tables.version = it.versions.version, s->tables.statistics = it.versions.statistics;
         if (!it.is_empty) hand_out(s, &it), it.line = NULL;
     } else {
-        if (is_back) end_session(s);
+        if (is_back) end_uncommitted(s);
         set_pending(s, NULL), gz_free_line(it.line);
     }
     gz_free_bytes(&it.text), gz_free_tables(&it.tables);

@@ -36,9 +36,12 @@ bool gz_write_lock(gz_replica *r, bool copying) {
     return pwrite(r->lock_file, bytes, sizeof bytes, 0) == sizeof bytes;
 }
 
-void gz_close_file(gz_replica *r) {
-    gz_drop_copy(r);
+static void forget_statements(gz_replica *r) {
     for (int i = 0; i < GZ_FILE_STATEMENTS; i++) sqlite3_finalize(r->statement[i]), r->statement[i] = NULL;
+}
+
+void gz_close_file(gz_replica *r) {
+    gz_drop_copy(r), forget_statements(r);
     sqlite3_close(r->db), r->db = NULL, r->has_place = false, gz_free_tables(&r->tables);
 }
 
@@ -80,6 +83,21 @@ int gz_open_file(gz_replica *r) {
     if (!rc) rc = sqlite3_exec(r->db, "COMMIT", NULL, NULL, NULL);
     code = rc ? gz_lags_sqlite(r, r->db, rc, "the file") : take_file(r, &mark, found, objects);
     if (code) gz_close_file(r);
+    return code;
+}
+
+/* Opens a file anew that could only be read, and may be written now. The old connection says whether others wrote to it
+ * until the new one has looked. */
+static int open_anew(gz_replica *r) {
+    sqlite3 *old = r->db;
+    int64_t version = r->data_version, now = version;
+    bool had_place = r->has_place;
+    if (!old || sqlite3_db_readonly(old, "main") != 1 || access(r->file, W_OK)) return GZ_OK;
+    gz_drop_copy(r), forget_statements(r), gz_free_tables(&r->tables), r->db = NULL, r->has_place = false;
+    int code = gz_open_file(r);
+    int rc = gz_number(old, &now, sqlite3_mprintf("PRAGMA main.data_version"));
+    sqlite3_close(old);
+    if (!code && had_place && (rc || now != version)) gz_need_copy(r, "another connection wrote to the file"), *r->error = 0;
     return code;
 }
 
@@ -133,7 +151,8 @@ static int take_answer(gz_replica *r) {
 }
 
 static int one_step(gz_replica *r, int timeout_ms) {
-    int code = gz_open_file(r);
+    int code = open_anew(r);
+    if (!code) code = gz_open_file(r);
     if (code) return code;
     sqlite3_busy_timeout(r->db, timeout_ms);
     if (r->backup || r->is_copied) return gz_go_on_copying(r);
