@@ -36,12 +36,9 @@ bool gz_write_lock(gz_replica *r, bool copying) {
     return pwrite(r->lock_file, bytes, sizeof bytes, 0) == sizeof bytes;
 }
 
-static void forget_statements(gz_replica *r) {
-    for (int i = 0; i < GZ_FILE_STATEMENTS; i++) sqlite3_finalize(r->statement[i]), r->statement[i] = NULL;
-}
-
 void gz_close_file(gz_replica *r) {
-    gz_drop_copy(r), forget_statements(r);
+    gz_drop_copy(r);
+    for (int i = 0; i < GZ_FILE_STATEMENTS; i++) sqlite3_finalize(r->statement[i]), r->statement[i] = NULL;
     sqlite3_close(r->db), r->db = NULL, r->has_place = false, gz_free_tables(&r->tables);
 }
 
@@ -86,18 +83,17 @@ int gz_open_file(gz_replica *r) {
     return code;
 }
 
-/* Opens a file anew that could only be read, and may be written now. The old connection says whether others wrote to it
- * until the new one has looked. */
+/* Opens a file anew that could only be read, and may be written now. SQLite's connections of a process share what they
+ * know of the -shm file, so the old one is closed first. */
 static int open_anew(gz_replica *r) {
-    sqlite3 *old = r->db;
-    int64_t version = r->data_version, now = version;
+    int64_t now = r->data_version;
     bool had_place = r->has_place;
-    if (!old || sqlite3_db_readonly(old, "main") != 1 || access(r->file, W_OK)) return GZ_OK;
-    gz_drop_copy(r), forget_statements(r), gz_free_tables(&r->tables), r->db = NULL, r->has_place = false;
+    if (!r->db || sqlite3_db_readonly(r->db, "main") != 1 || access(r->file, W_OK)) return GZ_OK;
+    int rc = gz_file_number(r, GZ_FILE_DATA_VERSION, &now);
+    bool is_foreign = had_place && (rc || now != r->data_version);
+    gz_close_file(r);
     int code = gz_open_file(r);
-    int rc = gz_number(old, &now, sqlite3_mprintf("PRAGMA main.data_version"));
-    sqlite3_close(old);
-    if (!code && had_place && (rc || now != version)) gz_need_copy(r, "another connection wrote to the file"), *r->error = 0;
+    if (!code && is_foreign) gz_need_copy(r, "another connection wrote to the file"), *r->error = 0;
     return code;
 }
 
