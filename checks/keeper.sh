@@ -6,6 +6,7 @@
 #   set; with 1 it takes some ten minutes.
 # - Foreign writes right after a commit, files that can't be written, and a broker that refuses (checks/keeper/paths.c). As
 #   root it mounts a small file system, and makes the file read-only for another user; else it says what it leaves out.
+# - Databases of many kinds (checks/keeper/kinds.py).
 # - A random load over a source and four replicas, with kills, stops, locks and foreign writes (checks/keeper.py): SECONDS
 #   of it, and a short one over AddressSanitizer.
 #   sh checks/keeper.sh [SECONDS] [SEED]        60 seconds and seed 1 without operands
@@ -53,7 +54,12 @@ without_room() {
 
 # loads FOLDER SECONDS: the random load by the programs of a folder
 loads() {
-    mkdir "$work/$1.run" && (cd "$work/$1.run" && python3 "$checks/keeper.py" "$work/$1" "$2" "$seed")
+    mkdir "$work/$1.run" && (cd "$work/$1.run" && python3 -B "$checks/keeper.py" "$work/$1" "$2" "$seed")
+}
+
+# kinds: databases of many kinds, by the programs over AddressSanitizer
+kinds() {
+    mkdir "$work/kinds" && (cd "$work/kinds" && python3 -B "$checks/keeper/kinds.py" "$work/asan")
 }
 
 # in_valgrind PROGRAM ARGUMENTS..: no error, and no memory stays in use
@@ -90,6 +96,7 @@ if mkdir "$work/try" && mount -t tmpfs -o size=1m tmpfs "$work/try" 2>"$work/too
 else
     echo 'left out: a full file system (it can'"'"'t be mounted)'
 fi
+says 'databases of many kinds' kinds
 says 'a load, AddressSanitizer' loads asan 20
 says "a load of $seconds seconds" loads plain "$seconds"
 none_failed checks
