@@ -95,6 +95,9 @@ fails 'python.sh, no interpreter' 'no command' sh checks/python.sh no-such-pytho
 fails 'refused/run.sh, no program' 'no program' sh refused/run.sh
 fails 'tests.sh, no program' 'no program' sh refused/tests.sh cs_tests
 fails 'record.sh, no program' 'no program' sh checks/record.sh
+fails 'keeper.sh, no library' 'no .*libbroker_c' sh checks/keeper.sh
+fails 'bench/keeper/run.sh, no library' 'no library of keeper' sh bench/keeper/run.sh
+fails 'keeper/run.sh, no library' 'no library of keeper' sh examples/keeper/run.sh
 fails 'machines/run.sh, no library' 'no library' sh examples/machines/run.sh
 fails 'machines.sh, no library' 'no library' sh checks/machines.sh 1
 fails 'bench/machines/run.sh, no library' 'no library' sh bench/machines/run.sh
