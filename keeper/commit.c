@@ -254,6 +254,7 @@ int gz_commit(gz_source *s) {
     struct commit it = {0};
     if (!s->is_open) return GZ_NO_TRANSACTION;
     if (sqlite3_get_autocommit(s->db)) return end_uncommitted(s), GZ_NO_TRANSACTION;
+    uint64_t left = s->left_count;
     int rc = decide(s, &it);
     if (!rc && it.has_tables) rc = gz_note_tables(s, &it.tables);
     if (!rc && !it.is_empty) set_pending(s, &it);
@@ -266,6 +267,8 @@ int gz_commit(gz_source *s) {
         if (!it.is_empty) hand_out(s, &it), it.line = NULL;
     } else {
         if (is_back) end_uncommitted(s);
+        /* what was left out is counted when it is committed */
+        if (!it.has_tables) s->left_count = left;
         set_pending(s, NULL), gz_free_line(it.line);
     }
     gz_free_bytes(&it.text), gz_free_tables(&it.tables);

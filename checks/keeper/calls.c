@@ -58,14 +58,16 @@ static void check_transactions(void) {
     run(other, "ROLLBACK"), sqlite3_close(other);
     /* a deferred constraint refuses COMMIT: the transaction stays open */
     commit("CREATE TABLE p (id INTEGER PRIMARY KEY); CREATE TABLE c (id INTEGER PRIMARY KEY, p REFERENCES p (id)"
-           " DEFERRABLE INITIALLY DEFERRED)");
+           " DEFERRABLE INITIALLY DEFERRED); CREATE TABLE o (k PRIMARY KEY)");
     CHECK(strstr(reason(), "schema"));
     run(db, "PRAGMA foreign_keys = 1");
     CHECK(gz_begin(s) == GZ_OK);
-    run(db, "INSERT INTO c VALUES (1, 7)");
+    struct gz_source_status before, after;
+    run(db, "INSERT INTO c VALUES (1, 7); INSERT INTO o VALUES (1.5)"), gz_source_status(s, &before);
     CHECK(gz_commit(s) == GZ_SQLITE && !sqlite3_get_autocommit(db));
     run(db, "INSERT INTO p VALUES (7)");
-    CHECK(gz_commit(s) == GZ_OK && number(db, "SELECT count(*) FROM c") == 1);
+    CHECK(gz_commit(s) == GZ_OK && number(db, "SELECT count(*) FROM c") == 1 && !gz_source_status(s, &after));
+    CHECK(after.left == before.left + 1);
 }
 
 /* A replica's life, with all that makes it a copy. */
