@@ -63,7 +63,8 @@ enum gz_code {
     /* gz_source_open, gz_begin, gz_commit, gz_rollback: SQLite refuses, and sqlite3_errmsg of the connection has the
      * words. gz_source_open and gz_begin leave no transaction open, and gz_commit leaves it open. */
     GZ_SQLITE = -2,
-    /* gz_source_open, gz_begin, gz_commit: the database is locked by another connection. As GZ_SQLITE. */
+    /* gz_source_open, gz_begin, gz_commit: the database is locked by another connection. As GZ_SQLITE. gz_source_open: or
+     * by this one, for good (PRAGMA locking_mode = EXCLUSIVE). */
     GZ_BUSY = -3,
     /* gz_source_open: PRAGMA journal_mode isn't WAL, or isn't to be had. Nothing changed. */
     GZ_NOT_WAL = -4,
@@ -86,7 +87,7 @@ enum gz_code {
      * gives another. Nothing changed. */
     GZ_LONG_PATH = -11,
     /* gz_source_open, gz_replica_open: the system gives no socket, thread, lock file or random bytes; errno says why. Or
-     * SQLite gives no WAL-index that is shared (PRAGMA locking_mode = EXCLUSIVE). gz_source_open may leave a table of the mark in the database. */
+     * SQLite gives no WAL-index that is shared. gz_source_open may leave a table of the mark in the database. */
     GZ_SYSTEM = -12,
     /* gz_replica_step: the file is a database that no replica was. Nothing changed. The option `replace` allows it. */
     GZ_NOT_REPLICA = -13,
