@@ -62,7 +62,6 @@ extern "C" {
     pub fn sqlite3_get_autocommit(db: *mut sqlite3) -> c_int;
     pub fn sqlite3_extended_errcode(db: *mut sqlite3) -> c_int;
     pub fn sqlite3_errmsg(db: *mut sqlite3) -> *const c_char;
-    pub fn sqlite3_errstr(code: c_int) -> *const c_char;
     pub fn sqlite3_changes64(db: *mut sqlite3) -> i64;
 
     pub fn sqlite3_prepare_v2(
