@@ -29,7 +29,7 @@ fn keep(file: &str) -> Result<()> {
 }
 
 fn rows(file: &str) -> Result<Vec<Vec<Value>>> {
-    Connection::open_readonly(file)?.query("SELECT * FROM item", &[])
+    Connection::open_readonly(file)?.query("SELECT * FROM item ORDER BY id", &[])
 }
 
 fn start() -> Child {
