@@ -4,13 +4,13 @@
 #   compiler finds them.
 # - Each call and each refusal of gubzelk is tried, and brokers in threads. The examples of the documentation run.
 # - Sources and replicas keep files equal by type and bytes, in threads, and in processes that are killed.
-# - The examples print what they must; that of the broker alone, copy, also in valgrind, where there is one: no memory is
-#   lost.
+# - The examples print what they must. That of the broker alone, copy, does so in valgrind too, where there is one: no
+#   memory is lost.
 # - Formatting, warnings and documentation, where there is a rustfmt and a clippy.
 # - The build script finds the libraries by GUBZELK_LIB_DIR and by pkg-config, links the archives or the shared object,
 #   and says what to do where it finds nothing.
-#   sh checks/rust.sh        needs cargo, gcc and pkg-config, and what packaging/install.sh needs, such as libsqlite3-dev;
-#                            no network
+#   sh checks/rust.sh        needs cargo, gcc and pkg-config, and what packaging/install.sh needs, such as
+#                            libsqlite3-dev; no network
 # GUBZELK_LIB_DIR names a folder with the libraries that is there already: then nothing is installed, and the build
 # script's other ways aren't tried. RT names the prover's command where it isn't `rt`.
 . "$(dirname "$0")/begin.sh"
