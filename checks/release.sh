@@ -172,9 +172,11 @@ fi
 
 # ---- the crates, by this machine's Cargo, without the folders of the toolchain
 if [ -e bindings/rust ] && command -v cargo >"$work/path"; then
+    features=gubzelk/changeset
+    [ ! -e keeper ] || features="$features,gubzelk/keeper"
     says 'the crates are built offline, and their tests pass' quiet env -i PATH="$(rustc --print sysroot)/bin:/usr/bin:/bin" \
         CARGO_HOME="$work/cargo" CARGO_TARGET_DIR="$work/target" sh -euc 'cd "$1" && tar xf "$2" && cd "$3" &&
-        cargo test -q -j1 --offline --workspace --features gubzelk/changeset' sh "$work" \
-        "$work/one/gubzelk-$version-rust.tar.gz" "gubzelk-$version-rust"
+        cargo test -q -j1 --offline --workspace --features "$4"' sh "$work" \
+        "$work/one/gubzelk-$version-rust.tar.gz" "gubzelk-$version-rust" "$features"
 fi
 none_failed checks

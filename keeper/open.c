@@ -15,7 +15,8 @@ static void free_source(struct gz_source *s) {
     for (int i = 0; i < GZ_STATEMENTS; i++) sqlite3_finalize(s->statement[i]);
     for (int i = 0; i < GZ_MOST_LEFT; i++) free(s->left[i].table), free(s->left[i].key), free(s->left[i].why);
     gz_free_tables(&s->tables), free(s->shared.peer), pthread_mutex_destroy(&s->shared.lock);
-    if (s->lock_file >= 0) close(s->lock_file);
+    /* a process that another thread is starting may still have the file open */
+    if (s->lock_file >= 0) flock(s->lock_file, LOCK_UN), close(s->lock_file);
     sqlite3_free(s->file), sqlite3_free(s->table), sqlite3_free(s->socket), free(s);
 }
 

@@ -223,6 +223,7 @@ int gz_replica_open(gz_replica **out, const char *file, const char *source_file,
 void gz_replica_close(gz_replica *r) {
     if (!r) return;
     gz_hang_up(r), gz_close_file(r);
-    if (r->lock_file >= 0) close(r->lock_file);
+    /* a process that another thread is starting may still have the file open */
+    if (r->lock_file >= 0) flock(r->lock_file, LOCK_UN), close(r->lock_file);
     sqlite3_free(r->file), sqlite3_free(r->source_file), sqlite3_free(r->table), sqlite3_free(r->socket), free(r);
 }
