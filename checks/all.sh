@@ -95,9 +95,7 @@ check "gcc pkg-config python3 rustc $RT" sh checks/examples.sh
 check "gcc python3 $RT" sh checks/python.sh
 check "gcc $RT" sh checks/leaks.sh
 check "gcc g++ valgrind $RT" sh checks/library.sh
-check "gcc sqlite3 $RT" sh examples/replicate/run.sh
-check "gcc sqlite3 $RT" sh checks/record.sh
-check "gcc python3 $RT" sh checks/replicate.sh "$SEED"
+check 'gcc sqlite3' sh checks/record.sh
 check "gcc sqlite3 $RT" sh examples/keeper/run.sh
 check "gcc g++ python3 valgrind $RT" sh checks/keeper.sh 60 "$SEED"
 

@@ -113,7 +113,7 @@ says 'a C program by pkg-config' lines \
     "PKG_CONFIG_PATH=$folder/lib/pkgconfig LD_LIBRARY_PATH=$folder/lib sh /root/builds $version"
 says 'the same after the folder has moved' lines "mv $folder /opt/g/moved
     PKG_CONFIG_PATH=/opt/g/moved/lib/pkgconfig LD_LIBRARY_PATH=/opt/g/moved/lib sh /root/builds $version"
-says 'its example keeps two replicas' lines 'sh /opt/g/moved/share/gubzelk/examples/replicate/run.sh'
+says 'its example keeps two replicas' lines 'sh /opt/g/moved/share/gubzelk/examples/keeper/run.sh'
 says 'the manual pages have no warning' lines 'cd /opt/g/moved/share/man
     [ -s man1/rb_run.1 ] && [ -s man3/broker.3 ] && [ -s man3/changeset.3 ]
     for page in $(grep -L "^\.so" man?/*); do
@@ -137,7 +137,7 @@ says 'its program answers the first example' lines "cd /usr/share/gubzelk/exampl
 says 'a C program by pkg-config' lines "sh /root/builds $version"
 says 'its example keeps two replicas' lines 'export OUT=/tmp/replicas
     trap "rm -rf $OUT" EXIT
-    sh /usr/share/gubzelk/examples/replicate/run.sh'
+    sh /usr/share/gubzelk/examples/keeper/run.sh'
 says 'man finds a page for each call' lines 'man -w rb_run broker changeset broker_open changeset_check'
 says 'its files have the sums of the package' lines 'cd / && md5sum --quiet -c /var/lib/dpkg/info/gubzelk.md5sums'
 says 'the package is removed' lines 'dpkg -P gubzelk'
@@ -172,9 +172,11 @@ fi
 
 # ---- the crates, by this machine's Cargo, without the folders of the toolchain
 if [ -e bindings/rust ] && command -v cargo >"$work/path"; then
+    features=gubzelk/changeset
+    [ ! -e keeper ] || features="$features,gubzelk/keeper"
     says 'the crates are built offline, and their tests pass' quiet env -i PATH="$(rustc --print sysroot)/bin:/usr/bin:/bin" \
         CARGO_HOME="$work/cargo" CARGO_TARGET_DIR="$work/target" sh -euc 'cd "$1" && tar xf "$2" && cd "$3" &&
-        cargo test -q -j1 --offline --workspace --features gubzelk/changeset' sh "$work" \
-        "$work/one/gubzelk-$version-rust.tar.gz" "gubzelk-$version-rust"
+        cargo test -q -j1 --offline --workspace --features "$4"' sh "$work" \
+        "$work/one/gubzelk-$version-rust.tar.gz" "gubzelk-$version-rust" "$features"
 fi
 none_failed checks

@@ -52,10 +52,8 @@ fails 'machines.sh, no SEED' usage sh checks/machines.sh
 fails 'groups.py, no such folder' 'no folder' python3 checks/groups.py none
 fails 'inverses.py, no such folder' 'no folder' python3 checks/inverses.py none
 fails 'recorded.py, no such folder' 'no folder' python3 checks/recorded.py none
-fails 'replicate.sh, no SEED' usage sh checks/replicate.sh
 fails 'plot.py, another word' usage python3 bench/plot.py --draw
 fails 'drives.py, no such folder' 'no folder' env PROGRAM=/bin/true python3 checks/drives.py none
-fails 'replicate/run.sh, one operand' usage sh examples/replicate/run.sh none
 fails 'install.sh, no PREFIX' usage sh packaging/install.sh
 fails 'table.sh, no NAME' usage sh docs/proof/table.sh
 fails 'table.sh, no such file' 'no docs/proof/none.tsv' sh docs/proof/table.sh none
@@ -97,9 +95,10 @@ fails 'python.sh, no library' 'nothing is installed' sh checks/python.sh
 fails 'python.sh, no interpreter' 'no command' sh checks/python.sh no-such-python
 fails 'refused/run.sh, no program' 'no program' sh refused/run.sh
 fails 'tests.sh, no program' 'no program' sh refused/tests.sh cs_tests
-fails 'replicate/run.sh, no library' 'no .*libbroker_c' sh examples/replicate/run.sh
-fails 'replicate.sh, no library' 'no .*libbroker_c' sh checks/replicate.sh 1
 fails 'record.sh, no program' 'no program' sh checks/record.sh
+fails 'keeper.sh, no library' 'no .*libbroker_c' sh checks/keeper.sh
+fails 'bench/keeper/run.sh, no library' 'no library of keeper' sh bench/keeper/run.sh
+fails 'keeper/run.sh, no library' 'no library of keeper' sh examples/keeper/run.sh
 fails 'machines/run.sh, no library' 'no library' sh examples/machines/run.sh
 fails 'machines.sh, no library' 'no library' sh checks/machines.sh 1
 fails 'bench/machines/run.sh, no library' 'no library' sh bench/machines/run.sh
@@ -142,7 +141,6 @@ fails 'stops.sh, a program that only exits' '0 of 12 losses' sh checks/stops.sh 
 fails 'refused/run.sh, a program that only exits' '7 failures' sh refused/run.sh
 fails 'bench/script.sh, a program that only exits' '0 answers' sh bench/script.sh
 fails 'bench/drive/run.sh, a program that only exits' 'two reports' sh bench/drive/run.sh 1
-fails 'record.sh, no library' 'no .*libbroker_c' sh checks/record.sh
 
 # A replica, $5, that begins with a zero byte beside a log of 41 bytes, and is never taken again.
 make "$program" '#!/bin/sh
@@ -216,12 +214,8 @@ gcc -c "$work/seven.c" -o "$work/seven.o" && ar cr crates/broker_c/out/libbroker
 make crates/rb_threads/out/rb_threads_tests "$exits"
 fails 'header.sh, no toolchain' 'no .*liblibc_c' sh checks/header.sh
 fails 'leaks.sh, no toolchain' 'no .*liblibc_c' sh checks/leaks.sh
-fails 'record.sh, no toolchain' 'no .*liblibc_c' sh checks/record.sh
-fails 'replicate.sh, no toolchain' 'no .*liblibc_c' sh checks/replicate.sh 1
 ar cr "$work/kit/c/liblibc_c.a"
-fails 'record.sh, a program that only exits, a broker that answers 7' 'checks failed' sh checks/record.sh
-fails 'replicate.sh, a broker that answers 7' 'returns 7' sh checks/replicate.sh 1 5
-fails 'replicate/run.sh, a broker that answers 7' 'returns 7' sh examples/replicate/run.sh
+fails 'record.sh, a program that only exits' 'checks failed' sh checks/record.sh
 rm crates/broker_c/out/libbroker_c.a
 mkdir -p crates/broker_c/out
 sed -n 's/^[A-Z_]* *[a-z0-9_]* \(broker_[a-z_]*\)(.*/long \1(void) { return 0; }/p' include/broker.h >"$work/none.c"

@@ -95,10 +95,20 @@ static void answer_peer(struct gz_shared *it, struct gz_peer *peer, const struct
     }
 }
 
-void gz_decide_answer(struct gz_shared *it, const struct gz_request *asked, struct gz_answer *answer,
-                      struct gz_bytes *text) {
+/* Whether others wrote since the source's last commit, by the counter of commits. The next number is the pending commit,
+ * or, if that is refused now, somebody else's: this is settled as soon as the writer has the lock. */
+static void look_at_counter(const struct gz_shared *it, uint32_t commits, struct gz_answer *answer, bool *is_settled) {
+    bool is_own = commits == it->commits;
+    *is_settled = is_own || !it->is_pending || commits != it->pending_commits;
+    answer->is_foreign = !is_own && *is_settled;
+}
+
+bool gz_decide_answer(struct gz_source *s, const struct gz_request *asked, struct gz_answer *answer, struct gz_bytes *text) {
+    struct gz_shared *it = &s->shared;
+    bool is_settled;
     *answer = (struct gz_answer){0};
     pthread_mutex_lock(&it->lock);
+    look_at_counter(it, gz_commits(&s->watch), answer, &is_settled);
     struct gz_peer *peer = find_peer(it, asked->id);
     answer->front = it->now->front;
     if (!peer) say(answer, GZ_TROUBLE, text, "the source is out of memory");
@@ -106,7 +116,9 @@ void gz_decide_answer(struct gz_shared *it, const struct gz_request *asked, stru
     else answer_peer(it, peer, &asked->at, answer, text);
     if (peer && peer->at == GZ_AT_OLD) answer->front += it->old->front;
     drop_old(it);
+    if (answer->kind == GZ_NOTHING) it->has_waiting = true;
     pthread_mutex_unlock(&it->lock);
     if (text->failed) gz_free_bytes(text), answer->kind = GZ_TROUBLE;
     answer->len = text->len;
+    return is_settled;
 }

@@ -6,21 +6,21 @@
 
 /* Ends a transaction that can't be committed. */
 static int give_up(gz_replica *r, int code) {
-    sqlite3_exec(r->db, "ROLLBACK", NULL, NULL, NULL);
+    gz_file_undo(r);
     return code;
 }
 
 /* Begins a transaction, and finds whether others wrote to the file since the last one. Returns GZ_OK if not. */
 static int begin(gz_replica *r) {
     int64_t version;
-    struct gz_mark mark;
-    enum gz_found found;
-    int rc = sqlite3_exec(r->db, "BEGIN IMMEDIATE", NULL, NULL, NULL);
+    struct gz_place place;
+    bool is_there;
+    int rc = gz_file_do(r, GZ_FILE_BEGIN);
     if (rc) return gz_lags_sqlite(r, r->db, rc, "the file");
-    rc = gz_number(r->db, &version, sqlite3_mprintf("PRAGMA main.data_version"));
-    if (!rc) rc = gz_read_mark(r->db, r->table, &mark, &found);
+    rc = gz_file_number(r, GZ_FILE_DATA_VERSION, &version);
+    if (!rc) rc = gz_file_read_place(r, &place, &is_there);
     if (rc) return give_up(r, gz_lags_sqlite(r, r->db, rc, "the file"));
-    if (version == r->data_version && found == GZ_MARK_FOUND && gz_same_place(&mark.place, &r->mark.place)) return GZ_OK;
+    if (version == r->data_version && is_there && gz_same_place(&place, &r->mark.place)) return GZ_OK;
     gz_need_copy(r, "another connection wrote to the file"), r->data_version = version;
     return give_up(r, GZ_LAGS);
 }
@@ -29,8 +29,8 @@ static int begin(gz_replica *r) {
 static int end(gz_replica *r, const struct gz_place *place) {
     struct gz_mark mark = r->mark;
     mark.place = *place;
-    int rc = gz_write_mark(r->db, r->table, &mark);
-    if (!rc) rc = sqlite3_exec(r->db, "COMMIT", NULL, NULL, NULL);
+    int rc = gz_file_write_mark(r, &mark);
+    if (!rc) rc = gz_file_do(r, GZ_FILE_COMMIT);
     if (rc) return give_up(r, gz_lags_sqlite(r, r->db, rc, "the file"));
     r->mark = mark;
     return GZ_OK;
@@ -72,7 +72,7 @@ static bool has_shape(void *context, const char *name, const unsigned char *key,
 /* Reads the schema anew if it was changed. SQLite passes over the changes of a table that isn't there. */
 static int look_at_schema(gz_replica *r) {
     int64_t version;
-    int rc = gz_number(r->db, &version, sqlite3_mprintf("PRAGMA main.schema_version"));
+    int rc = gz_file_number(r, GZ_FILE_SCHEMA_VERSION, &version);
     if (rc || version == r->tables.version) return rc;
     gz_free_tables(&r->tables);
     return gz_read_tables(r->db, r->table, &r->tables);
@@ -94,7 +94,9 @@ int gz_apply_entries(gz_replica *r) {
         if (wide == GZ_WIDE_FAULT) gz_need_copy(r, "the file's tables have another shape than the source's");
         return give_up(r, wide == GZ_WIDE_NO_MEMORY ? GZ_NO_MEMORY : GZ_LAGS);
     }
-    if (text.len) rc = sqlite3changeset_apply(r->db, (int)text.len, text.at, NULL, say_conflict, r);
+    /* what fails is rolled back as a whole, so it needs no savepoint */
+    if (text.len) rc = sqlite3changeset_apply_v2(r->db, (int)text.len, text.at, NULL, say_conflict, r, NULL, NULL,
+        SQLITE_CHANGESETAPPLY_NOSAVEPOINT);
     gz_free_bytes(&text);
     if (rc && *r->need) return give_up(r, GZ_LAGS);
     if (rc) return give_up(r, gz_lags_sqlite(r, r->db, rc, "a batch isn't applied"));

@@ -21,24 +21,40 @@ static void need(char words[GZ_WORDS], const char *why) {
     if (!*words) snprintf(words, GZ_WORDS, "%s", why);
 }
 
+/* What was committed since the last gz_commit is a VACUUM or the like, of this connection. */
+static void count_own(struct gz_source *s) {
+    pthread_mutex_lock(&s->shared.lock);
+    s->shared.commits = gz_commits(&s->watch);
+    pthread_mutex_unlock(&s->shared.lock);
+}
+
+/* Compares the database with what it was after the last commit. */
+static int compare(struct gz_source *s, int64_t data_version, int64_t changes) {
+    struct gz_versions now;
+    bool changed = false, is_own = true;
+    int rc = gz_take_versions(s);
+    if (rc) return rc;
+    rc = gz_schema_changed(s, &now, &changed);
+    if (!rc) rc = gz_has_own_mark(s, &is_own);
+    if (rc) return rc;
+    if (s->data_version != data_version) need(s->need, "another connection wrote to the database");
+    if (s->changes != changes) need(s->need, "the connection wrote outside of gz_begin and gz_commit");
+    if (changed) need(s->need, "the schema changed");
+    if (!is_own) need(s->need, "the mark was changed");
+    return SQLITE_OK;
+}
+
 /* Finds what others wrote since the last commit. The transaction has begun, so nobody else can write now. */
 static int find_others(struct gz_source *s) {
     int64_t data_version = s->data_version, changes = s->changes;
-    uint32_t file_version = s->file_version;
-    struct gz_versions now;
-    bool changed;
-    int rc = gz_take_versions(s);
-    if (rc) {
-        /* what was read in part says nothing: the next call compares with the last commit again */
-        s->data_version = data_version, s->changes = changes, s->file_version = file_version;
-        return rc;
-    }
-    if (s->data_version != data_version) need(s->need, "another connection wrote to the database");
-    else if (s->changes != changes && s->file_version != file_version)
-        need(s->need, "the connection wrote outside of gz_begin and gz_commit");
-    rc = gz_schema_changed(s, &now, &changed);
-    if (!rc && changed) need(s->need, "the schema changed");
-    if (!rc && !gz_has_own_mark(s)) need(s->need, "the mark was changed");
+    uint32_t file_version = s->file_version, now = file_version;
+    int rc = sqlite3_file_control(s->db, "main", SQLITE_FCNTL_DATA_VERSION, &now);
+    /* neither others nor this connection have written */
+    if (rc || now == file_version) return rc;
+    rc = compare(s, data_version, changes);
+    /* what was compared in part says nothing: the next call compares with the last commit again */
+    if (rc) s->data_version = data_version, s->changes = changes, s->file_version = file_version;
+    else if (!*s->need) count_own(s);
     return rc;
 }
 
@@ -62,7 +78,8 @@ static void end_session(struct gz_source *s) {
 
 int gz_begin(gz_source *s) {
     if (s->is_open || !sqlite3_get_autocommit(s->db)) return GZ_IN_TRANSACTION;
-    int rc = sqlite3_exec(s->db, "BEGIN IMMEDIATE", NULL, NULL, NULL);
+    int rc = gz_make_ready(s);
+    if (!rc) rc = gz_do(s, GZ_BEGIN);
     if (rc) return gz_code(rc);
     rc = find_others(s);
     if (!rc && !*s->need) rc = begin_session(s);
@@ -70,19 +87,26 @@ int gz_begin(gz_source *s) {
         s->is_open = true, s->changes_before = sqlite3_total_changes64(s->db);
         return GZ_OK;
     }
-    end_session(s), sqlite3_exec(s->db, "ROLLBACK", NULL, NULL, NULL);
+    end_session(s);
+    if (!sqlite3_get_autocommit(s->db)) gz_do(s, GZ_ROLLBACK);
     return gz_code(rc);
 }
 
-int gz_rollback(gz_source *s) {
-    uint32_t version = s->file_version;
-    if (!s->is_open) return GZ_NO_TRANSACTION;
+/* The transaction ended without a commit. What it changed counts as changes of the connection, and an error that empties
+ * SQLite's cache counts as a version of the file. Where nobody has committed since the last gz_commit, these are none. */
+static void end_uncommitted(struct gz_source *s) {
+    int64_t data_version = s->data_version, changes = s->changes;
+    uint32_t file_version = s->file_version, commits = s->shared.commits;
     end_session(s);
-    if (sqlite3_get_autocommit(s->db)) return GZ_NO_TRANSACTION;
-    int rc = sqlite3_exec(s->db, "ROLLBACK", NULL, NULL, NULL);
-    sqlite3_file_control(s->db, "main", SQLITE_FCNTL_DATA_VERSION, &version);
-    /* what is rolled back counts as changes, and as none of the file */
-    if (version == s->file_version) s->changes = sqlite3_total_changes64(s->db);
+    bool is_same = gz_commits(&s->watch) == commits && !gz_take_versions(s) && gz_commits(&s->watch) == commits;
+    if (!is_same) s->data_version = data_version, s->changes = changes, s->file_version = file_version;
+}
+
+int gz_rollback(gz_source *s) {
+    if (!s->is_open) return GZ_NO_TRANSACTION;
+    if (sqlite3_get_autocommit(s->db)) return end_uncommitted(s), GZ_NO_TRANSACTION;
+    int rc = gz_do(s, GZ_ROLLBACK);
+    if (sqlite3_get_autocommit(s->db)) end_uncommitted(s);
     return gz_code(rc);
 }
 
@@ -106,6 +130,8 @@ static int take_changes(struct gz_source *s, struct commit *it) {
     if (!rc) wide = gz_widen(raw.at, raw.len, &it->text, note_change, s, fault);
     gz_free_bytes(&raw);
     if (has_failed || wide == GZ_WIDE_NO_MEMORY) return SQLITE_NOMEM;
+    /* where memory runs out in the midst of a query, SQLite may roll the transaction back */
+    if (rc && sqlite3_get_autocommit(s->db)) return rc;
     if (is_long || it->text.len > GZ_MOST_TEXT) need(it->need, "a transaction has more than 16,777,216 bytes of changes");
     else if (rc == SQLITE_NOMEM) need(it->need, "the session ran out of memory");
     else if (rc) return rc;
@@ -185,8 +211,10 @@ static int decide(struct gz_source *s, struct commit *it) {
 static void set_pending(struct gz_source *s, const struct commit *it) {
     pthread_mutex_lock(&s->shared.lock);
     s->shared.is_pending = it != NULL;
-    if (it) s->shared.pending = it->mark.place;
+    /* the mark is written, so this connection has the write lock, and nobody else commits */
+    if (it) s->shared.pending = it->mark.place, s->shared.pending_commits = gz_commits(&s->watch) + 1;
     pthread_mutex_unlock(&s->shared.lock);
+    if (!it) gz_wake(s);
 }
 
 /* After COMMIT the broker refused the entry: the database stands at 0 of a new line. */
@@ -211,9 +239,11 @@ static void hand_out(struct gz_source *s, struct commit *it) {
         gz_set_lines(shared, line, line->has_equal && gz_same_name(line->equal.name, now->name) &&
             line->equal.front == now->front);
     }
-    shared->is_pending = false;
+    shared->commits = shared->pending_commits;
+    bool wakes = shared->has_waiting;
+    shared->is_pending = shared->has_waiting = false;
     pthread_mutex_unlock(&shared->lock);
-    gz_wake(s);
+    if (wakes) gz_wake(s);
     if (!line) return;
     s->brokers++;
     if (!it->has_tables) return;
@@ -223,11 +253,12 @@ static void hand_out(struct gz_source *s, struct commit *it) {
 int gz_commit(gz_source *s) {
     struct commit it = {0};
     if (!s->is_open) return GZ_NO_TRANSACTION;
-    if (sqlite3_get_autocommit(s->db)) return end_session(s), GZ_NO_TRANSACTION;
+    if (sqlite3_get_autocommit(s->db)) return end_uncommitted(s), GZ_NO_TRANSACTION;
+    uint64_t left = s->left_count;
     int rc = decide(s, &it);
-    if (!rc && it.has_tables) gz_note_tables(s, &it.tables);
+    if (!rc && it.has_tables) rc = gz_note_tables(s, &it.tables);
     if (!rc && !it.is_empty) set_pending(s, &it);
-    if (!rc) rc = sqlite3_exec(s->db, "COMMIT", NULL, NULL, NULL);
+    if (!rc) rc = gz_do(s, GZ_COMMIT);
     bool is_back = rc && sqlite3_get_autocommit(s->db);
     if (!rc) {
         end_session(s), s->changes = sqlite3_total_changes64(s->db);
@@ -235,7 +266,9 @@ int gz_commit(gz_source *s) {
         s->tables.version = it.versions.version, s->tables.statistics = it.versions.statistics;
         if (!it.is_empty) hand_out(s, &it), it.line = NULL;
     } else {
-        if (is_back) end_session(s);
+        if (is_back) end_uncommitted(s);
+        /* what was left out is counted when it is committed */
+        if (!it.has_tables) s->left_count = left;
         set_pending(s, NULL), gz_free_line(it.line);
     }
     gz_free_bytes(&it.text), gz_free_tables(&it.tables);

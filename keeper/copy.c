@@ -38,7 +38,7 @@ static int set_mode(gz_replica *r) {
 int gz_begin_copy(gz_replica *r) {
     int code = open_snapshot(r);
     if (!code) code = set_mode(r);
-    int rc = code ? SQLITE_OK : gz_number(r->db, &r->data_version, sqlite3_mprintf("PRAGMA main.data_version"));
+    int rc = code ? SQLITE_OK : gz_file_number(r, GZ_FILE_DATA_VERSION, &r->data_version);
     if (!code && rc) code = gz_lags_sqlite(r, r->db, rc, "the file");
     if (!code && !gz_write_lock(r, true)) code = gz_lags(r, "the lock file can't be written");
     if (!code && !(r->backup = sqlite3_backup_init(r->db, "main", r->from, "main")))
@@ -76,7 +76,7 @@ static int prepare_rows(gz_replica *r) {
     if (!rc) rc = gz_write_mark(r->db, r->table, &mark);
     gz_free_tables(&r->tables);
     if (!rc) rc = gz_read_tables(r->db, r->table, &r->tables);
-    if (!rc) rc = sqlite3_exec(r->db, "COMMIT", NULL, NULL, NULL);
+    if (!rc) rc = gz_file_do(r, GZ_FILE_COMMIT);
     if (!rc) r->mark = mark;
     return rc;
 }
@@ -84,14 +84,14 @@ static int prepare_rows(gz_replica *r) {
 /* Prepares the file, whose pages are those of the source, in one transaction. */
 static int prepare(gz_replica *r) {
     int64_t version = 0;
-    int rc = sqlite3_exec(r->db, "BEGIN IMMEDIATE", NULL, NULL, NULL);
+    int rc = gz_file_do(r, GZ_FILE_BEGIN);
     if (rc) return gz_lags_sqlite(r, r->db, rc, "the copy");
-    rc = gz_number(r->db, &version, sqlite3_mprintf("PRAGMA main.data_version"));
+    rc = gz_file_number(r, GZ_FILE_DATA_VERSION, &version);
     bool is_foreign = !rc && version != r->data_version;
     if (!rc && !is_foreign) rc = prepare_rows(r);
     if (rc || is_foreign) {
         int code = rc ? gz_lags_sqlite(r, r->db, rc, "the copy") : gz_lags(r, "another connection wrote to the copy");
-        sqlite3_exec(r->db, "ROLLBACK", NULL, NULL, NULL);
+        gz_file_undo(r);
         if (is_foreign) gz_drop_copy(r), gz_need_copy(r, "another connection wrote to the copy");
         return code;
     }

@@ -54,7 +54,8 @@ enum gz_code {
     /* gz_replica_step: no source listens. The file stays as it is, and may not have everything. */
     GZ_AWAY = 2,
     /* gz_replica_step: the file doesn't have everything, and can't be brought further now: it is locked, read-only or
-     * full, or the source doesn't answer, or others wrote to the database. The status has the words. */
+     * full, or the source doesn't answer, or others wrote to the database. The status has the words. A VACUUM or ANALYZE
+     * of the source's own connection counts as others' until the next gz_begin. */
     GZ_LAGS = 3,
 
     /* Any call: memory ran out. Make the call again. gz_commit leaves the transaction open. */
@@ -62,7 +63,8 @@ enum gz_code {
     /* gz_source_open, gz_begin, gz_commit, gz_rollback: SQLite refuses, and sqlite3_errmsg of the connection has the
      * words. gz_source_open and gz_begin leave no transaction open, and gz_commit leaves it open. */
     GZ_SQLITE = -2,
-    /* gz_source_open, gz_begin, gz_commit: the database is locked by another connection. As GZ_SQLITE. */
+    /* gz_source_open, gz_begin, gz_commit: the database is locked by another connection. As GZ_SQLITE. gz_source_open: or
+     * by this one, for good (PRAGMA locking_mode = EXCLUSIVE). */
     GZ_BUSY = -3,
     /* gz_source_open: PRAGMA journal_mode isn't WAL, or isn't to be had. Nothing changed. */
     GZ_NOT_WAL = -4,
@@ -78,13 +80,14 @@ enum gz_code {
     /* gz_commit, gz_rollback: gz_begin wasn't called, or the transaction has ended since, as by SQL of the caller's. What
      * it wrote is committed or rolled back, as SQLite says. A commit is found by the next gz_begin as a foreign write. */
     GZ_NO_TRANSACTION = -9,
-    /* gz_commit: SQLite refused COMMIT and rolled the transaction back, as where the disk is full. */
+    /* gz_commit: SQLite refused COMMIT and rolled the transaction back, as where the disk is full, or where memory ran out
+     * in the midst of a query. */
     GZ_ROLLED_BACK = -10,
     /* gz_source_open, gz_replica_open: the path of the socket is too long (107 bytes are the most). The option `socket`
      * gives another. Nothing changed. */
     GZ_LONG_PATH = -11,
-    /* gz_source_open, gz_replica_open: the system gives no socket, thread, lock file or random bytes; errno says why.
-     * gz_source_open may leave a table of the mark in the database. */
+    /* gz_source_open, gz_replica_open: the system gives no socket, thread, lock file or random bytes; errno says why. Or
+     * SQLite gives no WAL-index that is shared. gz_source_open may leave a table of the mark in the database. */
     GZ_SYSTEM = -12,
     /* gz_replica_step: the file is a database that no replica was. Nothing changed. The option `replace` allows it. */
     GZ_NOT_REPLICA = -13,
@@ -142,12 +145,14 @@ void gz_source_close(gz_source *s);
  * Refused: IN_TRANSACTION, BUSY, SQLITE, NO_MEMORY. */
 int gz_begin(gz_source *s);
 
-/* Commits the transaction, and hands it to the replicas. After GZ_OK it is in the database, and will be in each replica.
+/* Commits the transaction, and hands it to the replicas. After GZ_OK it is in the database, and will be in each replica. If
+ * memory ran out right after COMMIT, replicas get GZ_LAGS until the next gz_commit, which may be of an empty transaction.
  * A code of GZ_BUSY, GZ_SQLITE or GZ_NO_MEMORY leaves the transaction open: call it again, write more, or gz_rollback.
  * Refused: NO_TRANSACTION, BUSY, SQLITE, ROLLED_BACK, NO_MEMORY. */
 int gz_commit(gz_source *s);
 
-/* Rolls the transaction back. Refused: NO_TRANSACTION, SQLITE. */
+/* Rolls the transaction back. A code of GZ_SQLITE or GZ_NO_MEMORY leaves it open: call it again. Refused: NO_TRANSACTION,
+ * SQLITE, NO_MEMORY. */
 int gz_rollback(gz_source *s);
 
 struct gz_source_status {

@@ -11,10 +11,10 @@ bool gz_same_place(const struct gz_place *a, const struct gz_place *b) {
     return a->front == b->front && gz_same_name(a->name, b->name);
 }
 
-static void take_bytes(sqlite3_stmt *query, int column, unsigned char bytes[16]) {
+void gz_take_name(sqlite3_stmt *query, int column, unsigned char name[16]) {
     const void *blob = sqlite3_column_blob(query, column);
-    memset(bytes, 0, 16);
-    if (blob && sqlite3_column_bytes(query, column) == 16) memcpy(bytes, blob, 16);
+    memset(name, 0, 16);
+    if (blob && sqlite3_column_bytes(query, column) == 16) memcpy(name, blob, 16);
 }
 
 /* Sets `*found` by the table that the schema has under this name. */
@@ -30,7 +30,7 @@ static int find_table(sqlite3 *db, const char *table, enum gz_found *found) {
     }
     int end = sqlite3_finalize(query);
     sqlite3_free(wanted);
-    return rc ? rc : end;
+    return rc ? rc : end ? end : wanted ? SQLITE_OK : SQLITE_NOMEM;
 }
 
 int gz_read_mark(sqlite3 *db, const char *table, struct gz_mark *it, enum gz_found *found) {
@@ -44,7 +44,7 @@ int gz_read_mark(sqlite3 *db, const char *table, struct gz_mark *it, enum gz_fou
     *found = GZ_MARK_NONE;
     if (sqlite3_step(query) == SQLITE_ROW) {
         *found = GZ_MARK_FOUND;
-        take_bytes(query, 0, it->place.name), take_bytes(query, 5, it->id);
+        gz_take_name(query, 0, it->place.name), gz_take_name(query, 5, it->id);
         it->place.front = (uint64_t)sqlite3_column_int64(query, 1), it->turn = sqlite3_column_int64(query, 2);
         it->role = sqlite3_column_int(query, 3), it->prepared = sqlite3_column_int(query, 4);
         it->filled = sqlite3_column_int64(query, 6);
@@ -60,8 +60,9 @@ int gz_write_mark(sqlite3 *db, const char *table, const struct gz_mark *it) {
     if (!rc) rc = gz_prepare(db, &query, sqlite3_mprintf("REPLACE INTO main.\"%w\" VALUES (1, ?1, %lld, %lld, %d, %d, ?2,"
         " %lld)", table, (long long)it->place.front, (long long)it->turn, it->role, it->prepared, (long long)it->filled));
     if (rc) return rc;
-    sqlite3_bind_blob(query, 1, it->place.name, 16, SQLITE_TRANSIENT);
-    sqlite3_bind_blob(query, 2, it->id, 16, SQLITE_TRANSIENT);
-    sqlite3_step(query);
-    return sqlite3_finalize(query);
+    rc = sqlite3_bind_blob(query, 1, it->place.name, 16, SQLITE_STATIC);
+    if (!rc) rc = sqlite3_bind_blob(query, 2, it->id, 16, SQLITE_STATIC);
+    if (!rc) sqlite3_step(query);
+    int end = sqlite3_finalize(query);
+    return rc ? rc : end;
 }

@@ -32,6 +32,9 @@ int gz_read_mark(sqlite3 *db, const char *table, struct gz_mark *it, enum gz_fou
 /* Makes the table if there is none, and writes the row. */
 int gz_write_mark(sqlite3 *db, const char *table, const struct gz_mark *it);
 
+/* Sets the name to the 16 bytes of a column, or to zeros. */
+void gz_take_name(sqlite3_stmt *query, int column, unsigned char name[16]);
+
 bool gz_same_name(const unsigned char a[16], const unsigned char b[16]);
 bool gz_same_place(const struct gz_place *a, const struct gz_place *b);
 

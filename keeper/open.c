@@ -11,11 +11,12 @@
 #include <unistd.h>
 
 static void free_source(struct gz_source *s) {
-    gz_set_lines(&s->shared, NULL, false);
+    gz_end_watch(&s->watch), gz_set_lines(&s->shared, NULL, false);
     for (int i = 0; i < GZ_STATEMENTS; i++) sqlite3_finalize(s->statement[i]);
     for (int i = 0; i < GZ_MOST_LEFT; i++) free(s->left[i].table), free(s->left[i].key), free(s->left[i].why);
     gz_free_tables(&s->tables), free(s->shared.peer), pthread_mutex_destroy(&s->shared.lock);
-    if (s->lock_file >= 0) close(s->lock_file);
+    /* a process that another thread is starting may still have the file open */
+    if (s->lock_file >= 0) flock(s->lock_file, LOCK_UN), close(s->lock_file);
     sqlite3_free(s->file), sqlite3_free(s->table), sqlite3_free(s->socket), free(s);
 }
 
@@ -79,21 +80,32 @@ static int begin_line(struct gz_source *s, bool replaces) {
     return gz_code(gz_write_mark(s->db, s->table, &s->mark));
 }
 
+/* The transaction in which the first line begins. ROLLBACK is prepared before it, and needs no memory. */
+static int first_transaction(struct gz_source *s, bool replaces) {
+    int code = gz_code(gz_prepare_some(s, GZ_PROBE, GZ_SCHEMA_VERSION));
+    if (!code) code = gz_code(gz_do(s, GZ_BEGIN));
+    if (code) return code;
+    code = begin_line(s, replaces);
+    if (!code) code = gz_code(gz_prepare_some(s, GZ_READ_MARK, GZ_WRITE_MARK));
+    if (!code) code = gz_code(gz_note_tables(s, &s->tables));
+    if (!code) code = gz_code(gz_take_versions(s));
+    if (!code) code = gz_begin_watch(&s->watch, s->file);
+    if (!code) s->shared.commits = gz_commits(&s->watch) + 1, code = gz_code(gz_do(s, GZ_COMMIT));
+    if (code && !sqlite3_get_autocommit(s->db)) gz_do(s, GZ_ROLLBACK);
+    return code;
+}
+
 static int open_source(struct gz_source *s, const struct gz_options *options) {
-    int code = take_options(s, options);
+    int triggers = 1, unused, code = take_options(s, options);
     if (!code) code = take_lock(s);
     if (!code) code = is_wal(s, options && options->set_wal);
-    if (!code) code = gz_code(sqlite3_exec(s->db, "BEGIN IMMEDIATE", NULL, NULL, NULL));
     if (code) return code;
-    code = begin_line(s, options && options->replace);
-    if (!code) code = gz_code(gz_prepare_all(s));
-    if (!code) gz_note_tables(s, &s->tables);
-    if (!code) code = gz_code(gz_take_versions(s));
-    if (!code) code = gz_code(sqlite3_exec(s->db, "COMMIT", NULL, NULL, NULL));
-    if (code) {
-        if (!sqlite3_get_autocommit(s->db)) sqlite3_exec(s->db, "ROLLBACK", NULL, NULL, NULL);
-        return code;
-    }
+    /* gz_fill_defaults wants no triggers, and a change of that setting lets prepared statements expire */
+    sqlite3_db_config(s->db, SQLITE_DBCONFIG_ENABLE_TRIGGER, -1, &triggers);
+    sqlite3_db_config(s->db, SQLITE_DBCONFIG_ENABLE_TRIGGER, 0, &unused);
+    code = first_transaction(s, options && options->replace);
+    sqlite3_db_config(s->db, SQLITE_DBCONFIG_ENABLE_TRIGGER, triggers, &unused);
+    if (code) return code;
     s->changes = sqlite3_total_changes64(s->db);
     sqlite3_file_control(s->db, "main", SQLITE_FCNTL_DATA_VERSION, &s->file_version);
     return gz_start_service(s);

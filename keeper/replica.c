@@ -20,7 +20,7 @@ int gz_lags_sqlite(gz_replica *r, sqlite3 *db, int rc, const char *what) {
     /* the connection's words are of its last call, which may be another */
     const char *words = db && sqlite3_extended_errcode(db) == rc ? sqlite3_errmsg(db) : sqlite3_errstr(rc);
     snprintf(r->error, sizeof r->error, "%s: %s", what, words);
-    return (rc & 0xff) == SQLITE_NOMEM ? GZ_NO_MEMORY : GZ_LAGS;
+    return (rc & 0xff) == SQLITE_NOMEM || rc == SQLITE_IOERR_NOMEM ? GZ_NO_MEMORY : GZ_LAGS;
 }
 
 void gz_need_copy(gz_replica *r, const char *why) {
@@ -38,6 +38,7 @@ bool gz_write_lock(gz_replica *r, bool copying) {
 
 void gz_close_file(gz_replica *r) {
     gz_drop_copy(r);
+    for (int i = 0; i < GZ_FILE_STATEMENTS; i++) sqlite3_finalize(r->statement[i]), r->statement[i] = NULL;
     sqlite3_close(r->db), r->db = NULL, r->has_place = false, gz_free_tables(&r->tables);
 }
 
@@ -82,6 +83,20 @@ int gz_open_file(gz_replica *r) {
     return code;
 }
 
+/* Opens a file anew that could only be read, and may be written now. SQLite's connections of a process share what they
+ * know of the -shm file, so the old one is closed first. */
+static int open_anew(gz_replica *r) {
+    int64_t now = r->data_version;
+    bool had_place = r->has_place;
+    if (!r->db || sqlite3_db_readonly(r->db, "main") != 1 || access(r->file, W_OK)) return GZ_OK;
+    int rc = gz_file_number(r, GZ_FILE_DATA_VERSION, &now);
+    bool is_foreign = had_place && (rc || now != r->data_version);
+    gz_close_file(r);
+    int code = gz_open_file(r);
+    if (!code && is_foreign) gz_need_copy(r, "another connection wrote to the file"), *r->error = 0;
+    return code;
+}
+
 /* Whether the file is another one now, or others wrote to it. */
 static int look_at_file(gz_replica *r) {
     int has_moved = 0;
@@ -91,7 +106,7 @@ static int look_at_file(gz_replica *r) {
         gz_close_file(r), gz_hang_up(r);
         return gz_open_file(r);
     }
-    int rc = gz_number(r->db, &version, sqlite3_mprintf("PRAGMA main.data_version"));
+    int rc = gz_file_number(r, GZ_FILE_DATA_VERSION, &version);
     if (rc) return gz_lags_sqlite(r, r->db, rc, "the file");
     if (r->has_place && version != r->data_version) gz_need_copy(r, "another connection wrote to the file"), *r->error = 0;
     r->data_version = version;
@@ -132,7 +147,8 @@ static int take_answer(gz_replica *r) {
 }
 
 static int one_step(gz_replica *r, int timeout_ms) {
-    int code = gz_open_file(r);
+    int code = open_anew(r);
+    if (!code) code = gz_open_file(r);
     if (code) return code;
     sqlite3_busy_timeout(r->db, timeout_ms);
     if (r->backup || r->is_copied) return gz_go_on_copying(r);
@@ -207,6 +223,7 @@ int gz_replica_open(gz_replica **out, const char *file, const char *source_file,
 void gz_replica_close(gz_replica *r) {
     if (!r) return;
     gz_hang_up(r), gz_close_file(r);
-    if (r->lock_file >= 0) close(r->lock_file);
+    /* a process that another thread is starting may still have the file open */
+    if (r->lock_file >= 0) flock(r->lock_file, LOCK_UN), close(r->lock_file);
     sqlite3_free(r->file), sqlite3_free(r->source_file), sqlite3_free(r->table), sqlite3_free(r->socket), free(r);
 }

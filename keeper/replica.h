@@ -8,6 +8,10 @@
 
 enum { GZ_REPLICA_WORDS = 400 };
 
+/* Statements that steps run on the file. */
+enum gz_file_statement { GZ_FILE_BEGIN, GZ_FILE_COMMIT, GZ_FILE_ROLLBACK, GZ_FILE_DATA_VERSION, GZ_FILE_SCHEMA_VERSION,
+    GZ_FILE_READ_PLACE, GZ_FILE_WRITE_MARK, GZ_FILE_STATEMENTS };
+
 struct gz_replica {
     char *file, *source_file, *socket, *table;
     int (*setup)(void *context, sqlite3 *db);
@@ -18,6 +22,7 @@ struct gz_replica {
     bool was_copying;
     /* The file, where it stands, and what tells whether others wrote to it. */
     sqlite3 *db;
+    sqlite3_stmt *statement[GZ_FILE_STATEMENTS];
     struct gz_tables tables;
     struct gz_mark mark;
     bool has_place;
@@ -56,6 +61,14 @@ int gz_open_file(gz_replica *r);
 void gz_close_file(gz_replica *r);
 /* Writes the lock file. Returns whether it could. */
 bool gz_write_lock(gz_replica *r, bool copying);
+
+/* Runs a statement, sets `*out` to the number that it gives, reads where the file stands, and writes its mark. They return
+ * SQLite codes. gz_file_undo rolls back, and closes the file if there is no memory for that. */
+int gz_file_do(gz_replica *r, enum gz_file_statement which);
+int gz_file_number(gz_replica *r, enum gz_file_statement which, int64_t *out);
+int gz_file_read_place(gz_replica *r, struct gz_place *place, bool *is_there);
+int gz_file_write_mark(gz_replica *r, const struct gz_mark *mark);
+void gz_file_undo(gz_replica *r);
 
 /* Begins a copy, goes on with it, or drops it. Returns a code. */
 int gz_begin_copy(gz_replica *r);

@@ -15,14 +15,15 @@
 /* A client that takes nothing for STALL milliseconds is closed: its memory is freed, and it may connect again. */
 enum { MOST_CLIENTS = 1000, STALL = 60000 };
 
-/* A replica that is connected. It reads a request, waits for news, or gets an answer. */
+/* A replica that is connected. It reads a request, waits for news, or gets an answer. News that comes in the millisecond of
+ * the request waits for the next: where many small transactions are committed, an answer has some of them. */
 struct client {
     int file;
     unsigned char in[GZ_REQUEST_BYTES];
     size_t read, written;
-    bool waits;
+    bool waits, has_news;
     struct gz_request asked;
-    int64_t deadline, moved;
+    int64_t begun, deadline, moved;
     struct gz_bytes out;
 };
 
@@ -30,29 +31,11 @@ struct gz_service {
     struct gz_source *source;
     pthread_t thread;
     int listener, wake;
-    /* its own connection, which only reads, and what it saw last */
-    sqlite3 *db;
-    int64_t version;
-    struct gz_mark mark;
-    bool is_foreign;
     struct client client[MOST_CLIENTS];
     int clients;
+    struct pollfd polled[MOST_CLIENTS + 2];
     bool ends;
 };
-
-/* Looks whether the database was changed and its mark wasn't. */
-static void look_at_file(struct gz_service *it) {
-    int64_t version;
-    struct gz_mark mark;
-    enum gz_found found;
-    if (!it->db || sqlite3_exec(it->db, "BEGIN", NULL, NULL, NULL)) return;
-    int rc = gz_number(it->db, &version, sqlite3_mprintf("PRAGMA main.data_version"));
-    if (!rc) rc = gz_read_mark(it->db, it->source->table, &mark, &found);
-    sqlite3_exec(it->db, "COMMIT", NULL, NULL, NULL);
-    if (rc || version == it->version) return;
-    it->is_foreign = found != GZ_MARK_FOUND || (gz_same_place(&mark.place, &it->mark.place) && mark.turn == it->mark.turn);
-    it->version = version, it->mark = mark;
-}
 
 static void close_client(struct gz_service *it, int at) {
     close(it->client[at].file), gz_free_bytes(&it->client[at].out);
@@ -75,9 +58,10 @@ static bool answer_client(struct gz_service *it, struct client *to) {
     unsigned char head[GZ_ANSWER_HEAD];
     struct gz_answer answer;
     struct gz_bytes text = {0};
-    gz_decide_answer(&it->source->shared, &to->asked, &answer, &text);
-    if (answer.kind == GZ_NOTHING && gz_clock() < to->deadline) return true;
-    answer.is_foreign = it->is_foreign, gz_write_answer(head, &answer);
+    bool is_settled = gz_decide_answer(it->source, &to->asked, &answer, &text);
+    to->has_news = false;
+    if (answer.kind == GZ_NOTHING && (!is_settled || gz_clock() < to->deadline)) return true;
+    gz_write_answer(head, &answer);
     to->waits = false, to->moved = gz_clock(), to->written = 0;
     gz_append(&to->out, head, sizeof head), gz_append(&to->out, text.at, text.len), gz_free_bytes(&text);
     return !to->out.failed && write_out(to);
@@ -96,8 +80,8 @@ static bool read_in(struct gz_service *it, struct client *from) {
     if (from->read < sizeof from->in) return true;
     from->read = 0;
     if (!gz_read_request(from->in, &from->asked)) return false;
-    from->waits = true, from->deadline = gz_clock() + (from->asked.wait_ms > 600000 ? 600000 : from->asked.wait_ms);
-    look_at_file(it);
+    from->waits = true, from->begun = gz_clock();
+    from->deadline = from->begun + (from->asked.wait_ms > 600000 ? 600000 : from->asked.wait_ms);
     return answer_client(it, from);
 }
 
@@ -109,12 +93,15 @@ static void accept_clients(struct gz_service *it) {
     }
 }
 
-/* How long poll may wait, in milliseconds. */
+/* How long poll may wait, in milliseconds. Who waits longer than he wanted waits for a commit to be settled. */
 static int next_deadline(const struct gz_service *it) {
     int64_t now = gz_clock(), next = now + STALL;
-    for (int i = 0; i < it->clients; i++)
-        if (it->client[i].waits && it->client[i].deadline < next) next = it->client[i].deadline;
-    return next <= now ? 0 : (int)(next - now);
+    for (int i = 0; i < it->clients; i++) {
+        const struct client *client = &it->client[i];
+        int64_t due = client->has_news ? client->begun + 1 : client->deadline;
+        if (client->waits && due < next) next = due;
+    }
+    return next <= now ? 1 : (int)(next - now);
 }
 
 /* Serves one client. Returns whether it stays. */
@@ -122,12 +109,16 @@ static bool serve_client(struct gz_service *it, struct client *to, short events,
     if ((events & (POLLERR | POLLNVAL)) || (events & POLLHUP && !(events & POLLIN))) return false;
     if (events & POLLIN && !read_in(it, to)) return false;
     if (events & POLLOUT && to->out.len && !write_out(to)) return false;
-    if (to->waits && (has_news || gz_clock() >= to->deadline) && !answer_client(it, to)) return false;
+    to->has_news |= has_news;
+    int64_t now = gz_clock();
+    bool is_due = (to->has_news && now > to->begun) || now >= to->deadline;
+    if (to->waits && is_due && !answer_client(it, to)) return false;
     bool is_under_way = to->out.len || to->read;
     return !is_under_way || gz_clock() - to->moved < STALL;
 }
 
-static void wait_and_serve(struct gz_service *it, struct pollfd *polled) {
+static void wait_and_serve(struct gz_service *it) {
+    struct pollfd *polled = it->polled;
     uint64_t news = 0;
     for (int i = 0; i < it->clients; i++)
         polled[i] = (struct pollfd){it->client[i].file, POLLIN | (it->client[i].out.len ? POLLOUT : 0), 0};
@@ -136,7 +127,6 @@ static void wait_and_serve(struct gz_service *it, struct pollfd *polled) {
     polled[count + 1] = (struct pollfd){count < MOST_CLIENTS ? it->listener : -1, POLLIN, 0};
     if (poll(polled, (nfds_t)count + 2, next_deadline(it)) < 0) return;
     bool has_news = polled[count].revents && read(it->wake, &news, sizeof news) == sizeof news;
-    if (has_news) look_at_file(it);
     /* from the last one, since a client that ends is replaced by the last */
     for (int i = count - 1; i >= 0; i--)
         if (!serve_client(it, &it->client[i], polled[i].revents, has_news)) close_client(it, i);
@@ -145,9 +135,7 @@ static void wait_and_serve(struct gz_service *it, struct pollfd *polled) {
 
 static void *run_service(void *context) {
     struct gz_service *it = context;
-    struct pollfd *polled = malloc((MOST_CLIENTS + 2) * sizeof *polled);
-    while (polled && !__atomic_load_n(&it->ends, __ATOMIC_ACQUIRE)) wait_and_serve(it, polled);
-    free(polled);
+    while (!__atomic_load_n(&it->ends, __ATOMIC_ACQUIRE)) wait_and_serve(it);
     return NULL;
 }
 
@@ -193,7 +181,7 @@ static void free_service(struct gz_service *it) {
     while (it->clients) close_client(it, 0);
     if (it->listener >= 0) close(it->listener);
     if (it->wake >= 0) close(it->wake);
-    sqlite3_close(it->db), free(it);
+    free(it);
 }
 
 int gz_start_service(struct gz_source *s) {
@@ -201,10 +189,7 @@ int gz_start_service(struct gz_source *s) {
     if (!it) return GZ_NO_MEMORY;
     it->source = s, it->listener = -1, it->wake = eventfd(0, EFD_NONBLOCK | EFD_CLOEXEC);
     int code = it->wake < 0 ? GZ_SYSTEM : listen_at(it, s->socket);
-    /* without this connection only gz_begin finds foreign writes */
-    if (!code && sqlite3_open_v2(s->file, &it->db, SQLITE_OPEN_READONLY | SQLITE_OPEN_NOMUTEX, NULL))
-        sqlite3_close(it->db), it->db = NULL;
-    if (!code) look_at_file(it), it->is_foreign = false, code = start_thread(it);
+    if (!code) code = start_thread(it);
     if (code) free_service(it);
     else s->service = it;
     return code;

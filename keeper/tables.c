@@ -153,11 +153,13 @@ int gz_defaults(sqlite3 *db, const char *mark, int64_t *hash) {
 
 /* A short record has the DEFAULT, so rows with another value are full. A DEFAULT that is a bare word or in double quotes
  * would be a column's name in a condition: all rows are rewritten then. What refuses, as a CHECK, leaves the rows. */
-static void fill_column(sqlite3 *db, const char *table, const char *column, const char *text) {
+static int fill_column(sqlite3 *db, const char *table, const char *column, const char *text) {
     bool is_literal = strchr("0123456789'+-.(", *text) || !sqlite3_strnicmp(text, "x'", 2);
     char *rows = is_literal ? sqlite3_mprintf(" WHERE \"%w\" IS (%s)", column, text) : sqlite3_mprintf("%s", "");
-    if (rows) gz_run(db, sqlite3_mprintf("UPDATE main.\"%w\" SET \"%w\" = \"%w\"%s", table, column, column, rows));
+    int rc = rows ? gz_run(db, sqlite3_mprintf("UPDATE OR ABORT main.\"%w\" SET \"%w\" = \"%w\"%s", table, column, column,
+        rows)) : SQLITE_NOMEM;
     sqlite3_free(rows);
+    return (rc & 0xff) == SQLITE_CONSTRAINT || (rc & 0xff) == SQLITE_ERROR ? SQLITE_OK : rc;
 }
 
 int gz_fill_defaults(sqlite3 *db, const char *mark) {
@@ -167,9 +169,12 @@ int gz_fill_defaults(sqlite3 *db, const char *mark) {
     if (rc) return rc;
     sqlite3_db_config(db, SQLITE_DBCONFIG_ENABLE_TRIGGER, -1, &triggers);
     sqlite3_db_config(db, SQLITE_DBCONFIG_ENABLE_TRIGGER, 0, &unused);
-    while (sqlite3_step(found) == SQLITE_ROW)
-        fill_column(db, (const char *)sqlite3_column_text(found, 0), (const char *)sqlite3_column_text(found, 1),
-            (const char *)sqlite3_column_text(found, 2));
+    while (!rc && sqlite3_step(found) == SQLITE_ROW) {
+        const char *text[3];
+        for (int i = 0; i < 3; i++) text[i] = (const char *)sqlite3_column_text(found, i);
+        rc = text[0] && text[1] && text[2] ? fill_column(db, text[0], text[1], text[2]) : SQLITE_NOMEM;
+    }
     sqlite3_db_config(db, SQLITE_DBCONFIG_ENABLE_TRIGGER, triggers, &unused);
-    return sqlite3_finalize(found);
+    int end = sqlite3_finalize(found);
+    return rc ? rc : end;
 }

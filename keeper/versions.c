@@ -4,6 +4,7 @@
 #include <string.h>
 
 int gz_code(int sqlite) {
+    if (sqlite == SQLITE_IOERR_NOMEM) return GZ_NO_MEMORY;
     switch (sqlite & 0xff) {
     case SQLITE_OK: return GZ_OK;
     case SQLITE_NOMEM: return GZ_NO_MEMORY;
@@ -12,27 +13,8 @@ int gz_code(int sqlite) {
     }
 }
 
-int gz_prepare_all(struct gz_source *s) {
-    char *sql[GZ_STATEMENTS] = {sqlite3_mprintf("PRAGMA main.data_version"), sqlite3_mprintf("PRAGMA main.schema_version"),
-        sqlite3_mprintf("SELECT name, front, turn, role FROM main.\"%w\" WHERE one = 1", s->table),
-        sqlite3_mprintf("UPDATE main.\"%w\" SET name = ?1, front = ?2, turn = ?3, role = 0, filled = ?4 WHERE one = 1",
-            s->table)};
-    int rc = SQLITE_OK;
-    for (int i = 0; i < GZ_STATEMENTS; i++) {
-        int bad = gz_prepare(s->db, &s->statement[i], sql[i]);
-        if (bad) rc = bad;
-    }
-    return rc;
-}
-
-/* Sets `*out` to the number that a statement gives. */
-static int read_number(struct gz_source *s, enum gz_statement which, int64_t *out) {
-    if (sqlite3_step(s->statement[which]) == SQLITE_ROW) *out = sqlite3_column_int64(s->statement[which], 0);
-    return sqlite3_reset(s->statement[which]);
-}
-
 int gz_take_versions(struct gz_source *s) {
-    int rc = read_number(s, GZ_DATA_VERSION, &s->data_version);
+    int rc = gz_do_number(s, GZ_DATA_VERSION, &s->data_version);
     if (!rc) rc = sqlite3_file_control(s->db, "main", SQLITE_FCNTL_DATA_VERSION, &s->file_version);
     s->changes = sqlite3_total_changes64(s->db);
     return rc;
@@ -40,28 +22,31 @@ int gz_take_versions(struct gz_source *s) {
 
 int gz_schema_changed(struct gz_source *s, struct gz_versions *now, bool *changed) {
     *now = (struct gz_versions){s->tables.version, s->tables.statistics}, *changed = false;
-    int rc = read_number(s, GZ_SCHEMA_VERSION, &now->version);
+    int rc = gz_do_number(s, GZ_SCHEMA_VERSION, &now->version);
     return rc || now->version == s->tables.version ? rc : gz_tables_changed(s->db, &s->tables, now, changed);
 }
 
-bool gz_has_own_mark(struct gz_source *s) {
+int gz_has_own_mark(struct gz_source *s, bool *is_own) {
     sqlite3_stmt *it = s->statement[GZ_READ_MARK];
-    bool is_own = false;
+    *is_own = false;
     if (sqlite3_step(it) == SQLITE_ROW) {
         const void *name = sqlite3_column_blob(it, 0);
-        is_own = name && sqlite3_column_bytes(it, 0) == 16 && !memcmp(name, s->mark.place.name, 16) &&
+        *is_own = name && sqlite3_column_bytes(it, 0) == 16 && !memcmp(name, s->mark.place.name, 16) &&
             sqlite3_column_int64(it, 1) == (int64_t)s->mark.place.front && sqlite3_column_int64(it, 2) == s->mark.turn &&
             sqlite3_column_int(it, 3) == GZ_SOURCE_ROLE;
     }
-    return sqlite3_reset(it) == SQLITE_OK && is_own;
+    int rc = sqlite3_reset(it);
+    /* a table that is gone or has another shape has no mark */
+    return gz_code(rc) == GZ_SQLITE ? *is_own = false, SQLITE_OK : rc;
 }
 
 int gz_update_mark(struct gz_source *s, const struct gz_mark *mark) {
     sqlite3_stmt *it = s->statement[GZ_WRITE_MARK];
-    sqlite3_bind_blob(it, 1, mark->place.name, 16, SQLITE_TRANSIENT);
+    int rc = sqlite3_bind_blob(it, 1, mark->place.name, 16, SQLITE_STATIC);
+    if (rc) return rc;
     sqlite3_bind_int64(it, 2, (sqlite3_int64)mark->place.front), sqlite3_bind_int64(it, 3, mark->turn);
     sqlite3_bind_int64(it, 4, mark->filled), sqlite3_step(it);
-    int rc = sqlite3_reset(it);
+    rc = sqlite3_reset(it), sqlite3_bind_null(it, 1);
     return !rc && sqlite3_changes(s->db) == 1 ? SQLITE_OK : gz_write_mark(s->db, s->table, mark);
 }
 
@@ -74,25 +59,29 @@ void gz_note_left(struct gz_source *s, const char *table, const char *key, const
     s->left[at].table = strdup(table), s->left[at].key = strdup(key), s->left[at].why = strdup(why);
 }
 
-/* Whether a table has rows with NULL in the key. Sessions don't see them. */
-static bool has_null_key(struct gz_source *s, const char *table) {
-    int64_t found = 0;
+/* Finds whether a table has rows with NULL in the key. Sessions don't see them. */
+static int find_null_key(struct gz_source *s, const char *table, int64_t *found) {
     char *where = NULL;
     sqlite3_stmt *query;
-    if (gz_prepare(s->db, &query, sqlite3_mprintf("SELECT group_concat(printf('\"%%w\" IS NULL', name), ' OR ') FROM"
-        " pragma_table_info(%Q, 'main') WHERE pk", table))) return false;
+    int rc = gz_prepare(s->db, &query, sqlite3_mprintf("SELECT group_concat(printf('\"%%w\" IS NULL', name), ' OR ') FROM"
+        " pragma_table_info(%Q, 'main') WHERE pk", table));
+    if (rc) return rc;
     if (sqlite3_step(query) == SQLITE_ROW) where = sqlite3_mprintf("%s", sqlite3_column_text(query, 0));
-    sqlite3_finalize(query);
-    char *sql = where ? sqlite3_mprintf("SELECT EXISTS (SELECT 1 FROM main.\"%w\" WHERE %s)", table, where) : NULL;
-    if (sql) gz_number(s->db, &found, sql);
+    rc = sqlite3_finalize(query);
+    if (!rc && !where) rc = SQLITE_NOMEM;
+    if (!rc) rc = gz_number(s->db, found, sqlite3_mprintf("SELECT EXISTS (SELECT 1 FROM main.\"%w\" WHERE %s)", table, where));
     sqlite3_free(where);
-    return found;
+    return rc;
 }
 
-void gz_note_tables(struct gz_source *s, const struct gz_tables *tables) {
-    for (int i = 0; i < tables->count; i++) {
+int gz_note_tables(struct gz_source *s, const struct gz_tables *tables) {
+    int rc = SQLITE_OK;
+    for (int i = 0; !rc && i < tables->count; i++) {
         const struct gz_table *it = &tables->table[i];
+        int64_t found = 0;
         if (it->why) gz_note_left(s, it->name, "", it->why);
-        else if (has_null_key(s, it->name)) gz_note_left(s, it->name, "", "rows with NULL in the key");
+        else rc = find_null_key(s, it->name, &found);
+        if (found) gz_note_left(s, it->name, "", "rows with NULL in the key");
     }
+    return rc;
 }

@@ -137,6 +137,11 @@ if [ -e bindings/rust ]; then
     mkdir -p "$work/$crates/lib" "$work/$crates/include" "$work/$crates/.cargo"
     cp "$tree"/lib/libbroker_c.a "$tree"/lib/libchangeset_c.a "$tree"/lib/libgubzelk_heap.a "$work/$crates/lib"
     cp include/broker.h include/changeset.h "$work/$crates/include"
+    # the feature `keeper` links SQLite too, which the crates don't carry
+    if [ -e keeper ]; then
+        cp "$tree/lib/libgubzelk_keeper.a" "$work/$crates/lib"
+        cp keeper/gubzelk.h "$work/$crates/include"
+    fi
     cat >"$work/$crates/.cargo/config.toml" <<END
 [env]
 GUBZELK_LIB_DIR = { value = "lib", relative = true }

@@ -1,61 +1,11 @@
 /* ./calls FOLDER: what keeper/gubzelk.h says of each call, with a source and its replicas in one process. */
 #define SQLITE_ENABLE_SESSION
-#include <gubzelk.h>
-#include <stdio.h>
-#include <stdlib.h>
-#include <string.h>
+#include "common.h"
 #include <sys/socket.h>
 #include <sys/stat.h>
 #include <sys/un.h>
-#include <unistd.h>
 
-#define CHECK(x) do { if (!(x)) { printf("line %d: %s\n", __LINE__, #x); exit(1); } } while (0)
-
-static sqlite3 *db;
-static gz_source *s;
-static gz_replica *r;
-
-static void run(sqlite3 *on, const char *sql) {
-    if (sqlite3_exec(on, sql, NULL, NULL, NULL)) printf("%s: %s\n", sql, sqlite3_errmsg(on)), exit(1);
-}
-
-static long long number(sqlite3 *on, const char *sql) {
-    sqlite3_stmt *it;
-    CHECK(!sqlite3_prepare_v2(on, sql, -1, &it, NULL) && sqlite3_step(it) == SQLITE_ROW);
-    long long found = sqlite3_column_int64(it, 0);
-    return sqlite3_finalize(it), found;
-}
-
-static void commit(const char *sql) {
-    CHECK(gz_begin(s) == GZ_OK);
-    run(db, sql);
-    CHECK(gz_commit(s) == GZ_OK);
-}
-
-static const char *reason(void) {
-    static struct gz_source_status it;
-    gz_source_status(s, &it);
-    return it.reason;
-}
-
-/* Steps until the code comes. */
-static struct gz_replica_status until(gz_replica *of, int wanted) {
-    struct gz_replica_status it;
-    int code = GZ_OK;
-    for (int i = 0; i < 1000 && (code = gz_replica_step(of, 50)) != wanted; i++) CHECK(code >= 0 || code == wanted);
-    gz_replica_status(of, &it);
-    if (code != wanted) printf("code %d, wanted %d: %s\n", code, wanted, it.error);
-    CHECK(code == wanted);
-    return it;
-}
-
-static long long of_file(const char *path, const char *sql) {
-    sqlite3 *file;
-    CHECK(!sqlite3_open_v2(path, &file, SQLITE_OPEN_READONLY, NULL));
-    long long found = number(file, sql);
-    return sqlite3_close(file), found;
-}
-
+/* Another connection writes. */
 static void foreign(const char *path, const char *sql) {
     sqlite3 *file;
     CHECK(!sqlite3_open(path, &file));
@@ -108,14 +58,16 @@ static void check_transactions(void) {
     run(other, "ROLLBACK"), sqlite3_close(other);
     /* a deferred constraint refuses COMMIT: the transaction stays open */
     commit("CREATE TABLE p (id INTEGER PRIMARY KEY); CREATE TABLE c (id INTEGER PRIMARY KEY, p REFERENCES p (id)"
-           " DEFERRABLE INITIALLY DEFERRED)");
+           " DEFERRABLE INITIALLY DEFERRED); CREATE TABLE o (k PRIMARY KEY)");
     CHECK(strstr(reason(), "schema"));
     run(db, "PRAGMA foreign_keys = 1");
     CHECK(gz_begin(s) == GZ_OK);
-    run(db, "INSERT INTO c VALUES (1, 7)");
+    struct gz_source_status before, after;
+    run(db, "INSERT INTO c VALUES (1, 7); INSERT INTO o VALUES (1.5)"), gz_source_status(s, &before);
     CHECK(gz_commit(s) == GZ_SQLITE && !sqlite3_get_autocommit(db));
     run(db, "INSERT INTO p VALUES (7)");
-    CHECK(gz_commit(s) == GZ_OK && number(db, "SELECT count(*) FROM c") == 1);
+    CHECK(gz_commit(s) == GZ_OK && number(db, "SELECT count(*) FROM c") == 1 && !gz_source_status(s, &after));
+    CHECK(after.left == before.left + 1);
 }
 
 /* A replica's life, with all that makes it a copy. */

@@ -4,6 +4,8 @@
 //! the next number of one sequence. Subscriptions take what is placed as deliveries, accept them in order, and
 //! acknowledge them. The calls are those of `broker.h`, under the same names, and the library behind them is proved.
 //!
+//! To keep whole files copies of a database, use the module `keeper`, which needs the feature of that name.
+//!
 //! ```
 //! use gubzelk::{Broker, Limits, Table};
 //!
@@ -72,6 +74,8 @@ mod table;
 
 #[cfg(feature = "changeset")]
 pub mod changeset;
+#[cfg(feature = "keeper")]
+pub mod keeper;
 
 pub use broker::Broker;
 pub use deliveries::{Deliveries, InFlight};

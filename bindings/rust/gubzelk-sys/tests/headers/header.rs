@@ -3,15 +3,19 @@ use std::path::PathBuf;
 use std::process::Command;
 use std::{env, fs, process};
 
-/// The folder with the headers: the one that `GUBZELK_INCLUDE_DIR` names, or the repository's.
-pub fn folder() -> PathBuf {
-    let named = env::var_os("GUBZELK_INCLUDE_DIR").map(PathBuf::from);
-    named.unwrap_or_else(|| concat!(env!("CARGO_MANIFEST_DIR"), "/../../../include").into())
+/// The folders with the headers: the one that `GUBZELK_INCLUDE_DIR` names, or the repository's.
+pub fn folders() -> Vec<PathBuf> {
+    match env::var_os("GUBZELK_INCLUDE_DIR") {
+        Some(folder) => vec![folder.into()],
+        None => ["include", "keeper"]
+            .map(|name| PathBuf::from(concat!(env!("CARGO_MANIFEST_DIR"), "/../../..")).join(name))
+            .into(),
+    }
 }
 
 /// A header's text without its comments and preprocessor lines; `None` if it isn't there.
 pub fn text(name: &str) -> Option<String> {
-    let Ok(whole) = fs::read_to_string(folder().join(name)) else {
+    let Some(whole) = folders().iter().find_map(|folder| fs::read_to_string(folder.join(name)).ok()) else {
         eprintln!("no header {name}: nothing is compared");
         return None;
     };
@@ -23,16 +27,20 @@ pub fn text(name: &str) -> Option<String> {
     Some(text.lines().filter(|line| !line.starts_with('#')).collect::<Vec<_>>().join("\n"))
 }
 
-/// What a C program prints that has this body of `main`; `None` if there is no `cc` or no header.
-pub fn printed(name: &str, body: &str) -> Option<String> {
-    text("broker.h")?;
+/// What a C program prints that includes these headers and has this body of `main`; `None` if there is no `cc`, or if the
+/// first header isn't there.
+pub fn printed(name: &str, headers: &[&str], body: &str) -> Option<String> {
+    text(headers[0])?;
     let source = env::temp_dir().join(format!("gubzelk-{name}-{}.c", process::id()));
     let program = source.with_extension("out");
-    let lines = "#include <broker.h>\n#include <changeset.h>\n#include <stdio.h>\n";
-    fs::write(&source, format!("{lines}int main(void) {{\n{body}    return 0;\n}}\n")).expect("no file is written");
-    let compiler = env::var_os("CC").unwrap_or_else(|| "cc".into());
-    let Ok(status) = Command::new(compiler).arg("-I").arg(folder()).arg(&source).arg("-o").arg(&program).status()
-    else {
+    let lines: String = headers.iter().map(|header| format!("#include <{header}>\n")).collect();
+    let text = format!("{lines}#include <stdio.h>\nint main(void) {{\n{body}    return 0;\n}}\n");
+    fs::write(&source, text).expect("no file is written");
+    let mut compiler = Command::new(env::var_os("CC").unwrap_or_else(|| "cc".into()));
+    for folder in folders() {
+        compiler.arg("-I").arg(folder);
+    }
+    let Ok(status) = compiler.arg(&source).arg("-o").arg(&program).status() else {
         eprintln!("no cc: nothing is compared");
         return None;
     };

@@ -29,13 +29,16 @@ fn constants(source: &str) -> Vec<Row> {
     rows.collect()
 }
 
+/// The headers of the broker.
+const BROKER: &[&str] = &["broker.h", "changeset.h"];
+
 /// Compares each row with what C prints.
-fn agree(name: &str, rows: &[Row]) {
+fn agree(name: &str, headers: &[&str], rows: &[Row]) {
     let mut body = String::new();
     for (expression, _) in rows {
         body.push_str(&format!("    printf(\"%lld\\n\", (long long)({expression}));\n"));
     }
-    let Some(printed) = header::printed(name, &body) else { return };
+    let Some(printed) = header::printed(name, headers, &body) else { return };
     let found: Vec<i64> = printed.lines().map(|line| line.parse().expect("no number")).collect();
     assert_eq!(found.len(), rows.len());
     for ((expression, ours), found) in rows.iter().zip(found) {
@@ -56,14 +59,14 @@ fn structs() {
     };
     #[cfg(feature = "changeset")]
     rows.extend(layouts! { changeset_text { bytes, len } });
-    agree("structs", &rows);
+    agree("structs", BROKER, &rows);
 }
 
 #[test]
 fn numbers() {
     let rows = constants(include_str!("../../src/codes.rs"));
-    agree("numbers", &rows);
-    agree("changesets", &constants(include_str!("../../src/changesets.rs")));
+    agree("numbers", BROKER, &rows);
+    agree("changesets", BROKER, &constants(include_str!("../../src/changesets.rs")));
     let Some(text) = header::text("broker.h") else { return };
     let enumerated = text.lines().filter(|line| line.trim_start().starts_with("BROKER_") && line.contains(" = "));
     // the version and the room of a message are the header's two others
@@ -76,7 +79,7 @@ fn limits() {
     let others = [BROKER_LIMITS.intake, BROKER_LIMITS.appliers];
     let body = "    struct broker_limits l = BROKER_LIMITS;\n    printf(\"%s %d %d %d %d %d %d\", BROKER_VERSION, \
                 (int)l.batch, (int)l.window, (int)l.timeout, (int)l.capacity, (int)l.intake, (int)l.appliers);\n";
-    let Some(printed) = header::printed("limits", body) else { return };
+    let Some(printed) = header::printed("limits", BROKER, body) else { return };
     let numbers: Vec<String> = limits.iter().chain(&others).map(u64::to_string).collect();
     assert_eq!(printed, format!("{BROKER_VERSION} {}", numbers.join(" ")));
 }
@@ -85,4 +88,32 @@ fn limits() {
 fn versions() {
     assert_eq!(env!("CARGO_PKG_VERSION"), BROKER_VERSION);
     assert_eq!(unsafe { broker_version() }, BROKER_VERSION_NUMBER);
+}
+
+#[test]
+#[cfg(feature = "keeper")]
+fn structs_of_keeper() {
+    let rows = layouts! {
+        gz_options { prefix, socket, max_bytes, max_entries, set_wal, replace, setup, context }
+        gz_source_status { name, front, entries, bytes, held, brokers, reason, replicas, left }
+        gz_known { id, at, cursor, lag, since }
+        gz_left { table, key, why }
+        gz_replica_status {
+            name, number, front, lag, copying, pages_done, pages, copies, reason, error, foreign, id
+        }
+    };
+    agree("keeper-structs", &["gubzelk.h"], &rows);
+}
+
+#[test]
+#[cfg(feature = "keeper")]
+fn numbers_of_keeper() {
+    let rows = constants(include_str!("../../src/keeper/codes.rs"));
+    agree("keeper-numbers", &["gubzelk.h"], &rows);
+    let sqlite = constants(include_str!("../../src/keeper/sqlite.rs"));
+    assert!(sqlite.len() > 12);
+    agree("sqlite-numbers", &["gubzelk.h"], &sqlite);
+    let Some(text) = header::text("gubzelk.h") else { return };
+    let enumerated = text.lines().filter(|line| line.trim_start().starts_with("GZ_") && line.contains(" = "));
+    assert_eq!(rows.len(), enumerated.count());
 }

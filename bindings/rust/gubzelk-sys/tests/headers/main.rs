@@ -1,4 +1,4 @@
-//! The declarations of this crate agree with `include/broker.h` and `include/changeset.h`.
+//! The declarations of this crate agree with `broker.h`, `changeset.h`, `gubzelk.h` and `sqlite3.h`.
 mod header;
 mod layout;
 mod prototypes;
