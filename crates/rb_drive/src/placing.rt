@@ -25,9 +25,9 @@ pub fn place<L: Hall, R: Wait>(
         }
         let all_sent = signs.all_sent();
         match sequencer.turn(rt, alloc, broker) {
-            Turn::Placed(told) => {
+            Turn::Placed(_) => {
                 looks = 0;
-                signs.progress.set_placed(told.number());
+                signs.progress.set_placed(sequencer.placed());
                 signs.pulled.ring();
                 signs.placed.ring();
             }
