@@ -137,7 +137,7 @@ class Source(KeeperHandle):
         self._do(lambda handle: self._finish('commit', handle))
 
     def rollback(self) -> None:
-        """Rolls the transaction back. Refused: NoTransaction, SQLiteRefused."""
+        """Rolls the transaction back. Refused: NoTransaction, SQLiteRefused, NoMemory."""
         self._do(lambda handle: self._finish('rollback', handle))
 
     def _finish(self, call: str, handle: int) -> None:
