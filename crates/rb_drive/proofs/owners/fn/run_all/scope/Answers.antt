@@ -43,8 +43,8 @@ loop-reader-preserved g c =
     (rw c.in-Some-reader.ensures.steps.0 at c.loop-reader.invariant))
 
 -- a subscriber whose thread can't be made is dropped as it came
-pub invariant_of-t-143 : goal.invariant_of-t-143
-invariant_of-t-143 g c = record { shown = c.drop-arg-in_default-spawn_with-2-2-1.given.0.0.value.4.shown }
+pub invariant_of-t-154 : goal.invariant_of-t-154
+invariant_of-t-154 g c = record { shown = c.drop-arg-in_default-spawn_with-2-2-1.given.0.0.value.4.shown }
 
 pub returns : goal.returns
 returns g c =
