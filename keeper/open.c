@@ -116,8 +116,8 @@ int gz_source_open(gz_source **out, sqlite3 *db, const struct gz_options *option
     struct gz_source *s = calloc(1, sizeof *s);
     if (!s) return GZ_NO_MEMORY;
     s->db = db, s->lock_file = -1, pthread_mutex_init(&s->shared.lock, NULL);
-    int code = open_source(s, options);
-    if (code) free_source(s);
+    int code = open_source(s, options), why = errno;
+    if (code) free_source(s), errno = why;
     else *out = s;
     return code;
 }

@@ -214,8 +214,8 @@ int gz_replica_open(gz_replica **out, const char *file, const char *source_file,
     gz_replica *r = calloc(1, sizeof *r);
     if (!r) return GZ_NO_MEMORY;
     r->lock_file = r->connection = -1;
-    int code = open_replica(r, file, source_file, options);
-    if (code) gz_replica_close(r);
+    int code = open_replica(r, file, source_file, options), why = errno;
+    if (code) gz_replica_close(r), errno = why;
     else *out = r;
     return code;
 }
