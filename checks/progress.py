@@ -122,7 +122,7 @@ def slow_input(plain):
 def long_drive(plain):
     given = [TABLE + inserts(0, MANY)]
     ran = Ran(LONG + ['--progress'], given)
-    wrong = why_not(ran, Ran(LONG, given), b'', 2, 1 + MANY)
+    wrong = why_not(ran, Ran(LONG, given), b'', 1, 1 + MANY)
     return wrong or ('' if any(line[2] for line in lines_of(ran.err, b'')) else 'nothing is accepted')
 
 
