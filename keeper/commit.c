@@ -204,6 +204,8 @@ static int decide(struct gz_source *s, struct commit *it) {
     if (it->is_empty) return SQLITE_OK;
     if (!*it->need && it->text.len) rc = choose_line(s, it);
     if (!rc && *it->need) rc = choose_new(s, it);
+    /* an error of a statement above may have rolled the transaction back: the mark would be a commit of its own */
+    if (!rc && sqlite3_get_autocommit(s->db)) rc = SQLITE_ABORT_ROLLBACK;
     return rc ? rc : gz_update_mark(s, &it->mark);
 }
 

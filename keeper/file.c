@@ -60,7 +60,9 @@ int gz_file_write_mark(gz_replica *r, const struct gz_mark *mark) {
     sqlite3_bind_int(it, 4, mark->role), sqlite3_bind_int(it, 5, mark->prepared), sqlite3_bind_int64(it, 7, mark->filled);
     sqlite3_step(it);
     rc = sqlite3_reset(it), sqlite3_clear_bindings(it);
-    return !rc && sqlite3_changes(r->db) == 1 ? SQLITE_OK : rc ? rc : gz_write_mark(r->db, r->table, mark);
+    if (rc || sqlite3_changes(r->db) == 1) return rc;
+    /* the row is gone; or the transaction was rolled back, and the mark would be a commit of its own */
+    return sqlite3_get_autocommit(r->db) ? SQLITE_ABORT_ROLLBACK : gz_write_mark(r->db, r->table, mark);
 }
 
 void gz_file_undo(gz_replica *r) {

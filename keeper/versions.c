@@ -47,7 +47,10 @@ int gz_update_mark(struct gz_source *s, const struct gz_mark *mark) {
     sqlite3_bind_int64(it, 2, (sqlite3_int64)mark->place.front), sqlite3_bind_int64(it, 3, mark->turn);
     sqlite3_bind_int64(it, 4, mark->filled), sqlite3_step(it);
     rc = sqlite3_reset(it), sqlite3_bind_null(it, 1);
-    return !rc && sqlite3_changes(s->db) == 1 ? SQLITE_OK : gz_write_mark(s->db, s->table, mark);
+    if (!rc && sqlite3_changes(s->db) == 1) return SQLITE_OK;
+    /* the table or its row is gone; or the transaction was rolled back, and the mark would be a commit of its own */
+    if (sqlite3_get_autocommit(s->db)) return rc ? rc : SQLITE_ABORT_ROLLBACK;
+    return gz_write_mark(s->db, s->table, mark);
 }
 
 void gz_note_left(struct gz_source *s, const char *table, const char *key, const char *why) {
