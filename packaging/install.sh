@@ -40,7 +40,7 @@ if [ -e include/gubzelk ]; then
             [ -d "$root/$folder" ] || { mkdir "$root/$folder" && echo "$folder"; } || exit 1
         done) || exit 1
         [ -z "$made" ] || echo "$made" >>"$root/$list" || exit 1
-        find bin include lib share ! -type d | while read -r file; do
+        find bin include lib share -type f -o -type l | while read -r file; do
             rm -f "$root/$file" && cp -P "$file" "$root/$file" || exit 1
         done || exit 1
     fi

@@ -84,4 +84,5 @@ for name in one two; do
 done
 exec 3>&-
 wait "$writer" || fail "the writing program ends with status $?"
+rm -f input
 exit $bad
