@@ -22,9 +22,9 @@ LINE = re.compile(rb'\rread (\d+)  placed (\d+)  accepted (\d+)\.\.(\d+)  (\d+)/
 CLEAR = b'\r\x1b[K'
 TABLE = b'table 540201007400\n'
 # how many changesets the slow input has in each of its parts, and the long drive
-FEW, MANY = 100, 60000
+FEW, MANY = 100, 30000
 PAUSE = 1.2
-LONG = ['--subscribers', '16', '--batch', '1', '--window', '1']
+LONG = ['--subscribers', '16', '--batch', '1', '--window', '1', '--appliers', '2']
 
 
 def inserts(first, count):
@@ -122,7 +122,7 @@ def slow_input(plain):
 def long_drive(plain):
     given = [TABLE + inserts(0, MANY)]
     ran = Ran(LONG + ['--progress'], given)
-    wrong = why_not(ran, Ran(LONG, given), b'', 1, 1 + MANY)
+    wrong = why_not(ran, Ran(LONG, given), b'', 2, 1 + MANY)
     return wrong or ('' if any(line[2] for line in lines_of(ran.err, b'')) else 'nothing is accepted')
 
 

@@ -76,11 +76,26 @@ static void end_session(struct gz_source *s) {
     s->session = NULL, s->is_open = false;
 }
 
+/* The transaction ended without a commit. No statement runs here: the connection keeps the words of the error. */
+static void end_uncommitted(struct gz_source *s) { end_session(s), s->is_undone = true; }
+
+/* What a transaction changed that ended without a commit counts as changes of the connection, and an error that empties
+ * SQLite's cache counts as a version of the file. Where nobody has committed since the last gz_commit, these are none. The
+ * next transaction has begun, so nobody else commits. */
+static void settle_undone(struct gz_source *s) {
+    int64_t data_version = s->data_version, changes = s->changes;
+    uint32_t file_version = s->file_version, commits = s->shared.commits;
+    bool is_same = gz_commits(&s->watch) == commits && !gz_take_versions(s);
+    if (!is_same) s->data_version = data_version, s->changes = changes, s->file_version = file_version;
+    s->is_undone = false;
+}
+
 int gz_begin(gz_source *s) {
     if (s->is_open || !sqlite3_get_autocommit(s->db)) return GZ_IN_TRANSACTION;
     int rc = gz_make_ready(s);
     if (!rc) rc = gz_do(s, GZ_BEGIN);
     if (rc) return gz_code(rc);
+    if (s->is_undone) settle_undone(s);
     rc = find_others(s);
     if (!rc && !*s->need) rc = begin_session(s);
     if (!rc) {
@@ -90,16 +105,6 @@ int gz_begin(gz_source *s) {
     end_session(s);
     if (!sqlite3_get_autocommit(s->db)) gz_do(s, GZ_ROLLBACK);
     return gz_code(rc);
-}
-
-/* The transaction ended without a commit. What it changed counts as changes of the connection, and an error that empties
- * SQLite's cache counts as a version of the file. Where nobody has committed since the last gz_commit, these are none. */
-static void end_uncommitted(struct gz_source *s) {
-    int64_t data_version = s->data_version, changes = s->changes;
-    uint32_t file_version = s->file_version, commits = s->shared.commits;
-    end_session(s);
-    bool is_same = gz_commits(&s->watch) == commits && !gz_take_versions(s) && gz_commits(&s->watch) == commits;
-    if (!is_same) s->data_version = data_version, s->changes = changes, s->file_version = file_version;
 }
 
 int gz_rollback(gz_source *s) {

@@ -61,6 +61,8 @@ struct gz_source {
     uint32_t file_version;
     /* The transaction of gz_begin. */
     bool is_open;
+    /* A transaction ended without a commit since the last gz_begin. */
+    bool is_undone;
     int64_t changes_before;
     sqlite3_session *session;
     /* Why the next commit begins a new line that equals no other, or "". */

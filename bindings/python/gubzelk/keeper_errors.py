@@ -136,9 +136,16 @@ CLASSES: Dict[int, Type[KeeperRefused]] = {
 OF_SQLITE = (KeeperCode.SQLITE, KeeperCode.BUSY, KeeperCode.ROLLED_BACK)
 
 
+# SQLite's session functions end with a statement that succeeds, so the words of their error are lost.
+NO_ERROR = 'not an error'
+LOST_WORDS = 'SQLite had an error while it read the changes, and rolled the transaction back'
+
+
 def keeper_refusal(call: str, code: int, words: str, errno: int = 0, sqlite: str = '') -> KeeperRefused:
     """The exception of a code. `errno` is the system's number, and `sqlite` has SQLite's words."""
     detail = sqlite if code in OF_SQLITE else ''
+    if code == KeeperCode.ROLLED_BACK and sqlite == NO_ERROR:
+        detail = LOST_WORDS
     if code == KeeperCode.SYSTEM and errno:
         detail = os.strerror(errno)
     found = CLASSES.get(code, KeeperRefused)(code, words, detail)

@@ -8,7 +8,7 @@ from typing import Any, Callable, Iterable, Iterator, List, Optional, SupportsIn
 
 from .database import Database
 from .keeper_codes import KeeperCode
-from .keeper_handle import KeeperHandle, path_bytes
+from .keeper_handle import KeeperHandle, Result, path_bytes
 from .keeper_native import UNKNOWN, KnownRow, LeftRow, OptionsRow, Path, SourceRow
 from .keeper_records import Known, Left, SourceStatus
 from .operands import flag, name, number
@@ -196,7 +196,7 @@ class Source(KeeperHandle):
             raise sqlite3.ProgrammingError('SQL begins no transaction: use `with source.transaction() as t`')
         return rows
 
-    def _inside_run(self, handle: int, work: Callable[[Database], Any]) -> Any:
+    def _inside_run(self, handle: int, work: Callable[[Database], Result]) -> Result:
         """Does a work inside the transaction of this thread, which SQL may end."""
         if not self.in_transaction:
             raise self._refusal('execute', KeeperCode.NO_TRANSACTION)
@@ -208,7 +208,7 @@ class Source(KeeperHandle):
                 self._call('rollback', handle)
                 self._settle()
 
-    def _within(self, work: Callable[[Database], Any]) -> Any:
+    def _within(self, work: Callable[[Database], Result]) -> Result:
         """The same, for a Transaction."""
         return self._do(lambda handle: self._inside_run(handle, work))
 

@@ -45,9 +45,9 @@ pub enum Error {
     /// [`Transaction::commit`](super::Transaction::commit): SQLite refused COMMIT and rolled the transaction back, as
     /// when the disk is full.
     RolledBack {
-        /// SQLite's extended code.
+        /// SQLite's extended code, or 0 where the error came before COMMIT and SQLite has lost it.
         code: c_int,
-        /// SQLite's words.
+        /// SQLite's words, or that they are lost.
         message: String,
     },
     /// [`Source::open`](super::Source::open), [`Replica::open`](super::Replica::open): the path of the socket has more
@@ -102,6 +102,7 @@ impl Error {
             sys::GZ_NO_TRANSACTION => Error::NoTransaction,
             sys::GZ_ROLLED_BACK => {
                 let (code, message) = said(db);
+                let message = if code == 0 { LOST_WORDS.to_owned() } else { message };
                 Error::RolledBack { code, message }
             }
             sys::GZ_LONG_PATH => Error::LongPath,
@@ -144,6 +145,9 @@ impl Error {
         }
     }
 }
+
+/// SQLite's session functions end with a statement that succeeds, so the words of their error are lost.
+const LOST_WORDS: &str = "SQLite had an error while it read the changes, and rolled the transaction back";
 
 /// The code and the words that a connection has of its last call, if that was refused.
 fn said(db: *mut sys::sqlite3) -> (c_int, String) {
