@@ -72,6 +72,7 @@ check '' python3 bench/plot.py --check
 check '' python3 checks/definitions.py
 check '' sh docs/proof/definitions.sh
 check '' python3 checks/claims.py
+check '' python3 checks/packs.py
 check '' python3 checks/canonical.py
 check '' python3 checks/groups.py
 check '' python3 checks/inverses.py
@@ -79,13 +80,13 @@ check '' python3 checks/recorded.py
 check 'gcc g++ valgrind python3 sqlite3 git' sh checks/scripts.sh
 
 # the program
-check sqlite3 sh checks/run.sh
-check '' sh checks/drive.sh
+check 'sqlite3 python3' sh checks/run.sh
+check python3 sh checks/drive.sh
 check '' python3 checks/progress.py
 check '' python3 checks/drives.py
 check '' python3 checks/deliveries.py 300 "$SEED"
 check '' python3 checks/rings.py 5000 "$SEED"
-check gcc sh refused/run.sh
+check 'gcc python3' sh refused/run.sh
 
 # the libraries
 check "gcc g++ $RT" sh checks/header.sh
@@ -94,14 +95,14 @@ check "cargo gcc pkg-config $RT" sh checks/rust.sh
 check "gcc pkg-config python3 rustc $RT" sh checks/examples.sh
 check "gcc python3 $RT" sh checks/python.sh
 check "gcc $RT" sh checks/leaks.sh
-check "gcc g++ valgrind $RT" sh checks/library.sh
+check "gcc g++ python3 valgrind $RT" sh checks/library.sh
 check 'gcc sqlite3' sh checks/record.sh
 check "gcc sqlite3 $RT" sh examples/keeper/run.sh
 check "gcc g++ python3 valgrind $RT" sh checks/keeper.sh 60 "$SEED"
 
 if $long; then
     check 'gcc sqlite3' python3 checks/hostile.py
-    check valgrind sh checks/valgrind.sh
+    check 'python3 valgrind' sh checks/valgrind.sh
     check '' sh checks/stops.sh 16
     check 'python3 sqlite3' sh checks/killed.sh 200 "$SEED"
     check "$RT" sh checks/machines.sh "$SEED"

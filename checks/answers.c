@@ -60,7 +60,7 @@ static const struct {
     {BROKER_UNKNOWN_TABLE, 1, "UnknownTable"},
     {BROKER_SHAPE_DIFFERS, 1, "ShapeDiffers"},
     {BROKER_JOURNAL_FULL, 0, "JournalFull"},
-    {BROKER_NO_SUBSCRIPTION, 0, "NoSuch"},
+    {BROKER_NO_SUCH, 0, "NoSuch"},
     {BROKER_STALE_LINK, 0, "StaleLink"},
     {BROKER_WINDOW_FULL, 0, "WindowFull"},
     {BROKER_NO_DELIVERY, 0, "NoDelivery"},

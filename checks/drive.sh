@@ -3,7 +3,7 @@
 # 16, and compares report and status with what they must be: threads take another course each time. NAME.drive is an input, NAME.report what it comes to, NAME.args its options
 # and NAME.status its status, where it isn't 0. NAME.fault is the line after `rb_run: ` where it ends without a report. One
 # line for each.
-#   sh checks/drive.sh        needs the program as `rt run` leaves it (README.md)
+#   sh checks/drive.sh        needs python3 and the program as `rt run` leaves it (README.md)
 . "$(dirname "$0")/begin.sh"
 program=crates/rb_run/out/rb_run
 [ -x "$program" ] || fail "no program at $program: see README.md" 2
@@ -19,7 +19,8 @@ most=$work/bad-a-changeset-too-many
 awk 'BEGIN { for (i = 0; i < 65537; i++) print "changeset 0 -" }' >"$most.drive"
 echo 'line 65537' >"$most.fault"
 
-for input in examples/drives/*.drive crates/rb_drive_cases/data/*.drive "$most.drive"; do
+python3 checks/packs.py unpack rb_drive_cases "$work/data" || exit 2
+for input in examples/drives/*.drive "$work/data"/*.drive "$most.drive"; do
     [ -f "$input" ] || continue
     name=${input%.drive}
     first "$name.args" ''

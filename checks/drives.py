@@ -1,8 +1,8 @@
 #!/usr/bin/env python3
 """Makes drives by chance (docs/DRIVE.md) with their reports, which must be the same whatever the schedule.
 
-    python3 checks/drives.py           makes the drives of crates/rb_drive_cases anew, and compares them with its data
-    python3 checks/drives.py FOLDER    writes them into a folder
+    python3 checks/drives.py           makes the drives of crates/rb_drive_cases anew, and compares them with its packs
+    python3 checks/drives.py FOLDER    writes them into a folder, as files NAME.KIND
 
 Each drive is made from a seed, its name. Its report comes from a script with the same changesets: they are fed, sent
 and placed one at a time in the order of the lines, and then a subscriber applies them one by one. The program answers
@@ -31,11 +31,11 @@ import sys
 
 import histories
 import model
+import packs
 from bad_lines import bad_inputs
 from changesets import CONFLICTS, FAULTS, Author, header, integer, shapes, string
 
 TOP = os.path.join(os.path.dirname(os.path.abspath(__file__)), '..')
-DATA = os.path.join(TOP, 'crates', 'rb_drive_cases', 'data')
 # the conflicts of drives `opened-..`, and how many threads apply a delivery of each
 OPENED = {'an-insert-of-a-row': [1, 16], 'an-update-of-other-values': [1, 4], 'a-delete-of-no-row': [4, 16]}
 REPLICAS = ['drive-two', 'commuting-085', 'conflict-an-insert-of-a-row-1', 'recorded-text-keys']
@@ -334,16 +334,14 @@ def main():
                 f.write(text)
         print('%d drives, %d files, %d bytes' % (count, len(made), sum(map(len, made.values()))))
         return
-    kept = {}
-    for name in os.listdir(DATA) if os.path.isdir(DATA) else []:
-        with open(os.path.join(DATA, name), 'rb') as f:
-            kept[name] = f.read()
+    kept = {'%s.%s' % (name, kind): text for kind, texts in packs.kinds_of('rb_drive_cases').items()
+            for name, text in texts.items()}
     others = sorted(name for name in made.keys() | kept.keys() if made.get(name) != kept.get(name))
     for name in others:
         print('%s differs' % name)
     print('%d drives made anew' % count)
     if others:
-        sys.exit('drives.py: %d files differ' % len(others))
+        sys.exit('drives.py: %d texts differ' % len(others))
 
 
 if __name__ == '__main__':

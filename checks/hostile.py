@@ -18,24 +18,18 @@ import time
 from concurrent.futures import ThreadPoolExecutor
 
 import model
+import packs
 from changesets import integer, string
 
 TOP = os.path.normpath(os.path.join(os.path.dirname(os.path.abspath(__file__)), '..'))
 PROGRAM = os.path.join(TOP, os.environ.get('PROGRAM', 'crates/rb_run/out/rb_run'))
-CASES = os.path.join(TOP, 'crates/rb_cases/data')
-DRIVES = os.path.join(TOP, 'crates/rb_drive_cases/data')
 READ, FULL, NONE = 'read fault\nInput/output error', 'write fault\nNo space left on device', 'write fault\n'
 SHIM = None
 
 
-def bytes_of(*path):
-    with open(os.path.join(*path), 'rb') as file:
+def bytes_of(path):
+    with open(path, 'rb') as file:
         return file.read()
-
-
-def words_of(folder, name):
-    path = os.path.join(folder, name + '.args')
-    return bytes_of(path).decode().split() if os.path.exists(path) else []
 
 
 def ran(words, given, **faults):
@@ -98,7 +92,7 @@ def answered(lines, options, strict, numbers):
 
 
 def script_checks(checks, name, words):
-    script = bytes_of(CASES, name + '.script')
+    script = packs.texts_of('rb_cases', 'script')[name]
     numbers = [word for word in words if word in ('--strict', '--numbers')]
     options = {word[2:]: int(value) for word, value in zip(words, words[1:]) if value.isdigit()}
     lines = model.lines_of(script)

@@ -12,7 +12,7 @@
 #   of its own, over AddressSanitizer and in valgrind.
 # - Two threads use two handles at once, and one handle under a lock (threads.c), also in helgrind.
 # - Changesets of the most bytes come back as they were fed, until the sequence is full (large.c).
-#   sh checks/library.sh        needs gcc, g++, valgrind and what `rt lib` leaves in crates/broker_c
+#   sh checks/library.sh        needs gcc, g++, valgrind, python3 and what `rt lib` leaves in crates/broker_c
 # RT names the prover's command where it isn't `rt`. With EVERY=1 all cases run over AddressSanitizer and in valgrind;
 # else each fourth and each 20th.
 # shellcheck disable=SC2086 # several variables hold words of the compiler or of the program
@@ -129,7 +129,8 @@ in_pieces() {
 says 'cases, compiled' builds cases checks/cases.c checks/answers.c
 says 'cases over AddressSanitizer, compiled' builds cases-a $sanitize checks/cases.c checks/answers.c
 number=0 sanitized=$(((EVERY + 4) / 5))
-for script in crates/rb_cases/data/*.script; do
+python3 checks/packs.py unpack rb_cases "$work/data" || exit 2
+for script in "$work/data"/*.script; do
     case=${script%.script}
     number=$((number + 1))
     says "case ${case##*/}" in_pieces "$case" "$work/cases"

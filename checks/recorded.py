@@ -4,10 +4,11 @@
     python3 checks/recorded.py [FOLDER]
 
 It runs the blocks of each NAME.sql, each under a session of its own (examples/recorded/README.md). From what the sessions
-record and from the rows that the tables then have it makes a script and its answers. Both must be those of the case in
-crates/rb_cases/data, to the byte; no model and no program of this repository takes part. With FOLDER it writes them there.
+record and from the rows that the tables then have it makes a script and its answers. Both must be those of the case of
+rb_cases, to the byte; no model and no program of this repository takes part. With FOLDER it writes them
+there, as files NAME.script and NAME.answers.
 It takes SQLite 3.40.1: another version may record in another order. The variable SQLITE names a library, as for
-checks/groups.py. The status is 1 if a file differs.
+checks/groups.py. The status is 1 if a text differs.
 """
 import ctypes
 import glob
@@ -16,6 +17,7 @@ import re
 import sys
 
 import groups
+import packs
 
 TOP = os.path.join(os.path.dirname(os.path.abspath(__file__)), '..')
 INTEGER, REAL, TEXT, BLOB, NULL = 1, 2, 3, 4, 5
@@ -146,8 +148,7 @@ def main():
         with open(path, 'rb') as f:
             made = case_of(f.read())
         for end, text in made.items():
-            with open(os.path.join(TOP, 'crates', 'rb_cases', 'data', '%s.%s' % (name, end)), 'rb') as f:
-                same = f.read() == text.encode()
+            same = packs.texts_of('rb_cases', end).get(name) == text.encode()
             print('%s.%s: %s' % (name, end, 'the same' if same else 'another text'))
             compared += 1
             others += not same
@@ -155,7 +156,7 @@ def main():
                 with open(os.path.join(sys.argv[1], '%s.%s' % (name, end)), 'w') as f:
                     f.write(text)
     if not compared or others:
-        sys.exit('recorded.py: %s' % ('%d files differ' % others if compared else 'no history was found'))
+        sys.exit('recorded.py: %s' % ('%d texts differ' % others if compared else 'no history was found'))
 
 
 if __name__ == '__main__':

@@ -1,6 +1,6 @@
 #!/bin/sh
 # Checks the program from outside: its statuses, what it prints on which stream, and when. One line for each check.
-#   sh checks/run.sh        needs the program as `rt run` leaves it (README.md)
+#   sh checks/run.sh        needs python3, sqlite3 and the program as `rt run` leaves it (README.md)
 . "$(dirname "$0")/begin.sh"
 program=crates/rb_run/out/rb_run
 [ -x "$program" ] || fail "no program at $program: see README.md" 2
@@ -51,7 +51,8 @@ need_nothing err
 end 'first.script'
 
 # Cases: scripts with their answers, and with the options that they ask for.
-for script in crates/rb_cases/data/*.script; do
+python3 checks/packs.py unpack rb_cases "$work/data" || exit 2
+for script in "$work/data"/*.script; do
     case=${script%.script}
     options=''
     [ ! -f "$case.args" ] || options=$(cat "$case.args")
@@ -69,7 +70,7 @@ for script in crates/rb_cases/data/*.script; do
 done
 
 # Listings: lines with the rows that they show, as SQL literals and as JSON.
-for lines in crates/rb_cases/data/*.shows; do
+for lines in "$work/data"/*.shows; do
     case=${lines%.shows}
     for form in sql json; do
         flag=''

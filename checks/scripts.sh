@@ -232,12 +232,19 @@ fails 'bench/run.sh, a profiler that only exits' 'nothing was compared' env UNDE
 for script in groups inverses recorded; do
     fails "$script.py, a library without sessions" 'with sessions' env SQLITE=libc.so.6 python3 "checks/$script.py"
 done
-rm -r crates/rb_drive_cases/data examples/drives
+fails 'packs.py, another word' usage python3 checks/packs.py unpack none "$work/none"
+rm -r crates/rb_drive_cases/data/drive.pack examples/drives
 fails 'drive.sh, no drives' 'of 1 drives' sh checks/drive.sh
+fails 'packs.py, texts of no case' 'faults' python3 checks/packs.py
+rm -r crates/rb_drive_cases/data
+fails 'drive.sh, no packs' 'no packs of rb_drive_cases' sh checks/drive.sh
+fails 'packs.py, no packs' 'no packs of rb_drive_cases' python3 checks/packs.py
+: >crates/rb_cases/data/sql.pack
+fails 'packs.py, an empty pack' 'is no pack' python3 checks/packs.py
 rm -r crates/rb_cases/data
 fails 'groups.py, no histories' 'no recorded history' python3 checks/groups.py
 fails 'inverses.py, no histories' 'no recorded history' python3 checks/inverses.py
-fails 'recorded.py, no histories' 'No such file' python3 checks/recorded.py
+fails 'recorded.py, no histories' 'texts differ' python3 checks/recorded.py
 rm -r examples/recorded
 fails 'recorded.py, no SQL' 'no history' python3 checks/recorded.py
 fails 'edits.sh, no edits' 'no edit' sh checks/edits.sh none

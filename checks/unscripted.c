@@ -374,7 +374,7 @@ static int same_status(const struct broker_status *a, const struct broker_status
 static int tells(broker *b, const struct broker_status *wanted) {
     struct broker_status each[2] = {{7, 7, 7, 7, 7, 7, 7, 7, true, true}, {7, 7, 7, 7, 7, 7, 7, 7, true, true}};
     struct broker_numbers before, after;
-    int there = wanted->link != 0, code = there ? BROKER_OK : BROKER_NO_SUBSCRIPTION;
+    int there = wanted->link != 0, code = there ? BROKER_OK : BROKER_NO_SUCH;
     uint64_t cursor = 0;
     if (broker_why(b, &before) || broker_status(b, 0, &each[0]) != code || broker_why(b, &after)) return 0;
     if (before.first != after.first || before.second != after.second) return 0;

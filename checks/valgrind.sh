@@ -1,7 +1,7 @@
 #!/bin/sh
 # Runs ten scripts and five drives under valgrind: it must find no error and no lost block, and what is written must be what
 # it is without valgrind. One line for each.
-#   sh checks/valgrind.sh        needs valgrind and the program as `rt run` leaves it (README.md)
+#   sh checks/valgrind.sh        needs valgrind, python3 and the program as `rt run` leaves it (README.md)
 . "$(dirname "$0")/begin.sh"
 program=crates/rb_run/out/rb_run
 [ -x "$program" ] || fail "no program at $program: see README.md" 2
@@ -26,15 +26,18 @@ watched() {
     judged "$name" "$why"
 }
 
+for crate in rb_cases rb_drive_cases; do
+    python3 checks/packs.py unpack $crate "$work/$crate" || exit 2
+done
 for name in cut-everywhere.every-cut hostile-lines.lines line-bounds record-faults.faults recorded-all-types \
     history-faults history-falls history-opened history-withdrawals grouped-recorded-many-updates; do
-    case=crates/rb_cases/data/$name
+    case=$work/rb_cases/$name
     # each word of the options is one of the program's
-    watched "script $name" 0 $case.answers $case.script script $(words $case.args)
+    watched "script $name" 0 "$case.answers" "$case.script" script $(words "$case.args")
 done
 for drive in examples/drives/a-conflict examples/drives/faulty-lines examples/drives/nothing \
-    crates/rb_drive_cases/data/as-many-as-the-capacity-3; do
-    watched "drive ${drive##*/}" "$(status $drive.status)" $drive.report $drive.drive drive $(words $drive.args)
+    "$work/rb_drive_cases/as-many-as-the-capacity-3"; do
+    watched "drive ${drive##*/}" "$(status "$drive.status")" "$drive.report" "$drive.drive" drive $(words "$drive.args")
 done
 drive=examples/drives/a-conflict
 watched 'drive a-conflict, with a replica and appliers' "$(status $drive.status)" $drive.report $drive.drive \

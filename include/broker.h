@@ -108,7 +108,7 @@ enum broker_code {
     BROKER_WAITING = -23,
 
     /* No subscription has this number. */
-    BROKER_NO_SUBSCRIPTION = -30,
+    BROKER_NO_SUCH = -30,
     /* The subscription has another link now than the delivery. */
     BROKER_STALE_LINK = -31,
     /* The subscription has as many deliveries in flight as its window holds. */
@@ -328,7 +328,7 @@ BROKER_CALL int broker_subscribe(broker *b, uint64_t start, uint64_t *subscripti
  * Refused: JOURNAL_FULL, START_AHEAD, TOO_MANY. */
 BROKER_CALL int broker_subscribe_bare(broker *b, uint64_t start, uint64_t *subscription, uint64_t *link);
 
-/* Hands out a subscription's next ready entries. Refused: NO_SUBSCRIPTION, JOURNAL_FULL, CLOSED, WINDOW_FULL, DRAINED,
+/* Hands out a subscription's next ready entries. Refused: NO_SUCH, JOURNAL_FULL, CLOSED, WINDOW_FULL, DRAINED,
  * EMPTY. */
 BROKER_CALL int broker_take(broker *b, uint64_t subscription, uint64_t now, struct broker_delivery *delivery);
 
@@ -344,7 +344,7 @@ BROKER_CALL int broker_accept(broker *b, uint64_t delivery, uint64_t *cursor);
  * it, and else as before. It accepts nothing until broker_resume. Sets `*cursor` and is refused as broker_accept. */
 BROKER_CALL int broker_crash(broker *b, uint64_t delivery, bool kept, uint64_t *cursor);
 
-/* Sets `*cursor` to the last number that a subscription has accepted, or returns BROKER_NO_SUBSCRIPTION. */
+/* Sets `*cursor` to the last number that a subscription has accepted, or returns BROKER_NO_SUCH. */
 BROKER_CALL int broker_cursor(broker *b, uint64_t subscription, uint64_t *cursor);
 
 /* How far a subscription has come. */
@@ -369,7 +369,7 @@ struct broker_status {
     bool closed, fallen;
 };
 
-/* Sets `*status` to how far a subscription has come, or returns BROKER_NO_SUBSCRIPTION. */
+/* Sets `*status` to how far a subscription has come, or returns BROKER_NO_SUCH. */
 BROKER_CALL int broker_status(broker *b, uint64_t subscription, struct broker_status *status);
 
 /* Settles a delivery. Sets `*floor` to the number up to which the subscription has settled all. Refused: NO_DELIVERY,
@@ -389,14 +389,14 @@ BROKER_CALL int broker_expire(broker *b, uint64_t now, uint64_t *count);
 
 /* Lets a subscription go on after number `cursor`, under a new link, to which it sets `*link`. Its deliveries from
  * before are stale. After a number above the subscription's own cursor, broker_accept returns BROKER_GAP for good: the
- * entries between never come again. Refused: NO_SUBSCRIPTION, JOURNAL_FULL, CLOSED, BAD_CURSOR. */
+ * entries between never come again. Refused: NO_SUCH, JOURNAL_FULL, CLOSED, BAD_CURSOR. */
 BROKER_CALL int broker_reconnect(broker *b, uint64_t subscription, uint64_t cursor, uint64_t *link);
 
 /* Lets a subscription that has fallen go on after its own cursor, under a new link, to which it sets `*link`. Refused:
- * NO_SUBSCRIPTION, NOT_FALLEN, JOURNAL_FULL, CLOSED, BAD_CURSOR. */
+ * NO_SUCH, NOT_FALLEN, JOURNAL_FULL, CLOSED, BAD_CURSOR. */
 BROKER_CALL int broker_resume(broker *b, uint64_t subscription, uint64_t *link);
 
-/* Closes a subscription. Refused: NO_SUBSCRIPTION, JOURNAL_FULL, CLOSED. */
+/* Closes a subscription. Refused: NO_SUCH, JOURNAL_FULL, CLOSED. */
 BROKER_CALL int broker_unsubscribe(broker *b, uint64_t subscription);
 
 /* ---- the rows of a subscription: what its accepted deliveries made of its tables. They come as the text of a
@@ -406,13 +406,13 @@ BROKER_CALL int broker_unsubscribe(broker *b, uint64_t subscription);
 /* The rows of a subscription, in order: by their tables, in the order that broker_open was given, and then by the bytes
  * of their keys, as memcmp orders them; a key comes before one that it begins. Returns the text's length, which is 0
  * without rows. The text is written as broker_text writes one. It is made anew by each call. Returns
- * BROKER_NO_SUBSCRIPTION, or BROKER_NO_MEMORY, which comes only if the subscription is there. */
+ * BROKER_NO_SUCH, or BROKER_NO_MEMORY, which comes only if the subscription is there. */
 BROKER_CALL int64_t broker_rows(broker *b, uint64_t subscription, unsigned char *out, size_t room);
 
 /* The same of one row: the one of the table at place `table`, from 0, with this key. `key` is the values of the table's
  * key columns, in the order of the columns, each with the bytes that it has in a changeset: an INTEGER is 1 and eight
  * bytes, the highest first; a TEXT is 3 and a BLOB 4, its length as SQLite's varint, and its bytes. Returns the first
- * of these that applies: BROKER_NO_SUBSCRIPTION, BROKER_NO_TABLE, BROKER_NO_ROW; or BROKER_NO_MEMORY, which comes only
+ * of these that applies: BROKER_NO_SUCH, BROKER_NO_TABLE, BROKER_NO_ROW; or BROKER_NO_MEMORY, which comes only
  * if the subscription and the table are there. */
 BROKER_CALL int64_t broker_row(broker *b, uint64_t subscription, uint64_t table, const unsigned char *key, size_t len,
                                unsigned char *out, size_t room);

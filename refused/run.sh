@@ -2,7 +2,7 @@
 # Refuses each allocation of the program in turn, for five scripts and two drives. The program must then say that memory
 # ran out, with status 1 and the answers to some first lines of the script, of which a last one `text ..` may be cut, or the
 # beginning of a drive's report; or do without, and answer all of them, or write the whole report.
-#   sh refused/run.sh        needs gcc, and the program as `rt run` leaves it (README.md)
+#   sh refused/run.sh        needs gcc, python3, and the program as `rt run` leaves it (README.md)
 . "$(dirname "$0")/shim.sh"
 program=crates/rb_run/out/rb_run
 [ -x "$program" ] || fail "no program at $program: see README.md" 2
@@ -38,8 +38,9 @@ judge_drive() {
     fi
 }
 
+python3 checks/packs.py unpack rb_drive_cases "$work/data" || exit 2
 for drive in drive-two faulty-no-such-table; do
-    case=crates/rb_drive_cases/data/$drive
+    case=$work/data/$drive
     if ! "$program" drive --subscribers 2 --appliers 4 <"$case.drive" >"$work/all" || [ ! -s "$work/all" ]; then
         wrong "$drive: fails where nothing is refused"
         continue

@@ -61,7 +61,7 @@ codes! {
     Shut = -1, NoMemory = -2, Fault = -3, BadLimit = -4, BadTable = -5, Busy = -6, NoPublisher = -10, TooMany = -11,
     Holding = -12, NothingStaged = -13, Closed = -14, Full = -15, NotPlaced = -16, NotYours = -17,
     AlreadyWithdrawn = -18, SequenceFull = -19, UnknownTable = -20, ShapeDiffers = -21, JournalFull = -22,
-    Waiting = -23, NoSubscription = -30, StaleLink = -31, WindowFull = -32, NoDelivery = -33, NotInFlight = -34,
+    Waiting = -23, NoSuch = -30, StaleLink = -31, WindowFull = -32, NoDelivery = -33, NotInFlight = -34,
     Seen = -35, Drained = -36, Empty = -37, NotAccepted = -38, BadCursor = -39, StartAhead = -40, Gap = -41,
     Shape = -42, Conflict = -43, NotFallen = -44, Store = -45, NoTable = -46, NoRow = -47,
 }

@@ -30,7 +30,7 @@ from .codes import Code, ConflictKind, FaultKind
 from .deliveries import Delivery
 from .errors import (
     AlreadyWithdrawn, BadCursor, BadLimit, BadTable, Busy, Closed, Conflict, Drained, Fault, Full, Gap, Holding,
-    JournalFull, NoDelivery, NoPublisher, NoRow, NoSubscription, NotAccepted, NotFallen, NothingStaged,
+    JournalFull, NoDelivery, NoPublisher, NoRow, NoSuch, NotAccepted, NotFallen, NothingStaged,
     NotInFlight, NotPlaced, NotYours, NoTable, OutOfMemory, Seen, SequenceFull, Shape, ShapeDiffers,
     Shut, StaleLink, StartAhead, Store, TooMany, UnknownTable, Waiting, WindowFull)
 from .keeper_codes import KeeperCode, Step
@@ -51,7 +51,7 @@ __all__ = [
     'Closed', 'Code', 'Conflict', 'ConflictKind', 'Delivery', 'Drained', 'Fault', 'FaultKind', 'FileTaken', 'Full',
     'Gap', 'Holding', 'InTransaction', 'JournalFull', 'KeeperClosed', 'KeeperCode', 'KeeperRefused', 'Known', 'Left',
     'LibraryError', 'Limits', 'Locked', 'LongPath', 'NoDelivery', 'NoFile', 'NoMemory', 'NoPublisher', 'NoRow',
-    'NoSubscription', 'NoTable', 'NoTransaction', 'NotAccepted', 'NotFallen', 'NotInFlight', 'NotPlaced',
+    'NoSuch', 'NoTable', 'NoTransaction', 'NotAccepted', 'NotFallen', 'NotInFlight', 'NotPlaced',
     'NotReplica', 'NotWal', 'NotYours', 'NothingStaged', 'Operation', 'OtherRole', 'OutOfMemory', 'Reentered',
     'Refused', 'Replica', 'ReplicaStatus', 'RolledBack', 'SQLiteRefused', 'Seen', 'SequenceFull', 'Shape',
     'ShapeDiffers', 'Shut', 'Source', 'SourceStatus', 'StaleLink', 'StartAhead', 'Status', 'Step', 'Store',

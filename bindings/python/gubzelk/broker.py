@@ -64,7 +64,7 @@ class Broker(SubscriptionCalls):
 
         It ends when nothing is ready, when the window is full, and when the subscription is drained (`status` says
         which). A delivery that was given back comes again. Each thread needs an iterator of its own. Refused at the
-        first step: NoSubscription, JournalFull, Closed."""
+        first step: NoSuch, JournalFull, Closed."""
         return deliveries(self, subscription, now)
 
     def __enter__(self: Self) -> Self:

@@ -27,7 +27,7 @@ class Code(IntEnum):
     SHAPE_DIFFERS = -21
     JOURNAL_FULL = -22
     WAITING = -23
-    NO_SUBSCRIPTION = -30
+    NO_SUCH = -30
     STALE_LINK = -31
     WINDOW_FULL = -32
     NO_DELIVERY = -33

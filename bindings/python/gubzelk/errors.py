@@ -175,10 +175,10 @@ class Waiting(Refused):
         return self.numbers[0]
 
 
-class NoSubscription(Refused):
+class NoSuch(Refused):
     """No subscription has this number."""
 
-    of = Code.NO_SUBSCRIPTION
+    of = Code.NO_SUCH
 
 
 class StaleLink(Refused):

@@ -40,7 +40,7 @@ class SubscriptionCalls(SequenceCalls):
     def take(self, subscription: SupportsIndex, now: SupportsIndex = 0) -> Optional[Taken]:
         """Hands out a subscription's next ready entries, or returns None if none are ready.
 
-        Refused: NoSubscription, JournalFull, Closed, WindowFull, Drained."""
+        Refused: NoSuch, JournalFull, Closed, WindowFull, Drained."""
         return self._taken('take', number(subscription, 'subscription'), number(now, 'now'))
 
     def take_any(self, now: SupportsIndex = 0) -> Optional[Taken]:
@@ -92,11 +92,11 @@ class SubscriptionCalls(SequenceCalls):
         raise LookupError(f'no change {position} of delivery {delivery}')
 
     def cursor(self, subscription: SupportsIndex) -> int:
-        """The last number that a subscription has accepted. Refused: NoSubscription."""
+        """The last number that a subscription has accepted. Refused: NoSuch."""
         return self._number('cursor', number(subscription, 'subscription'))
 
     def status(self, subscription: SupportsIndex) -> Status:
-        """How far a subscription has come. Refused: NoSubscription."""
+        """How far a subscription has come. Refused: NoSuch."""
         row = StatusRow()
         self._ask('status', number(subscription, 'subscription'), byref(row))
         return Status(*(getattr(row, name) for name in Status._fields))
@@ -130,22 +130,22 @@ class SubscriptionCalls(SequenceCalls):
         before are stale.
 
         After a number above the subscription's own cursor, `accept` raises Gap for good: the entries between never come
-        again. Refused: NoSubscription, JournalFull, Closed, BadCursor."""
+        again. Refused: NoSuch, JournalFull, Closed, BadCursor."""
         return self._number('reconnect', number(subscription, 'subscription'), number(cursor, 'cursor'))
 
     def resume(self, subscription: SupportsIndex) -> int:
         """Lets a subscription that has fallen go on after its own cursor, under a new link, which is returned.
 
-        Refused: NoSubscription, NotFallen, JournalFull, Closed, BadCursor."""
+        Refused: NoSuch, NotFallen, JournalFull, Closed, BadCursor."""
         return self._number('resume', number(subscription, 'subscription'))
 
     def unsubscribe(self, subscription: SupportsIndex) -> None:
-        """Closes a subscription. Refused: NoSubscription, JournalFull, Closed."""
+        """Closes a subscription. Refused: NoSuch, JournalFull, Closed."""
         self._ask('unsubscribe', number(subscription, 'subscription'))
 
     def rows(self, subscription: SupportsIndex) -> bytes:
         """The rows of a subscription as a changeset with an INSERT for each: by their tables, and then by the bytes of
-        their keys. It is made anew by each call. Refused: NoSubscription."""
+        their keys. It is made anew by each call. Refused: NoSuch."""
         return self._text('rows', number(subscription, 'subscription'))
 
     def row(self, subscription: SupportsIndex, table: SupportsIndex,
@@ -153,7 +153,7 @@ class SubscriptionCalls(SequenceCalls):
         """The same of one row: the one of the table at place `table`, from 0, with this key.
 
         `key` is a tuple or a list of the values of the key columns, in the order of the columns; or their bytes, as a
-        changeset has them. Refused: NoSubscription, NoTable, NoRow."""
+        changeset has them. Refused: NoSuch, NoTable, NoRow."""
         values: Any = key
         found = changesets.key_text(values) if isinstance(values, (tuple, list)) else text(values, 'key')
         return self._text('row', number(subscription, 'subscription'), number(table, 'table'), found, len(found))

@@ -119,7 +119,7 @@ class Deliveries(unittest.TestCase):
         for wrong in [None, 1.5, 'now', lambda: None]:
             with self.assertRaisesRegex(TypeError, '^now '):
                 list(self.broker.deliveries(0, wrong))
-        with self.assertRaises(gubzelk.NoSubscription):
+        with self.assertRaises(gubzelk.NoSuch):
             list(self.broker.deliveries(1))
 
 

@@ -12,8 +12,6 @@ import model
 from gubzelk import FaultKind, changesets
 
 CALLS = dict(takeany='take_any', nackopen='nack_opened')
-# the names of refusals in a script that aren't those of the exceptions
-NAMES = dict(NoSuch='NoSubscription')
 # how a script shows what a call returns
 SHOWN = dict(publisher='publisher {0}', send='sent {0}', turn='placed {0}', close='closed {0}', accept='accepted {0}',
              crash='crashed {0}', ack='floor {0}', nackopen='opened {0}', expire='expired {0}', reconnect='link {0}',
@@ -53,7 +51,6 @@ class Script:
             return [f'refused Conflict {conflict.position} {int(conflict.kind)}']
         except gubzelk.Refused as refused:
             kind = type(refused).__name__
-            kind = {value: key for key, value in NAMES.items()}.get(kind, kind)
             return [' '.join(['refused', kind] + [str(getattr(refused, word)) for word in refused.shows])]
 
     def conflict(self, delivery, conflict):

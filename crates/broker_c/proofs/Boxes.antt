@@ -21,7 +21,7 @@ use Rattle.std_heap.specs.contracts.Global as Heap
 use Rattle.std_heap.specs.contracts.GlobalAllocator.TheImpl.{ghosts, dict}
 use Rattle.std_heap.proofs.Global.TheLaws as laws_of
 use Rattle.broker_c.specs.Boxed.{owns_if}
-use Rattle.broker_c.specs.contracts.parts.Parts as Parts
+use Rattle.broker_c.specs.contracts.parts.BoxParts as Parts
 
 -- a box of such a value
 abbrev pub box_of : (row : RattleType) → Laws row → Bx

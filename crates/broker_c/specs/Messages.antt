@@ -61,7 +61,7 @@ abbrev pub code_words : ℤ → List ℕ
 code_words (pos n) = words_above n
 code_words (negsuc n) = words_below (suc n)
 
--- words, and a zero byte behind them
+-- words, and a zero byte after them
 abbrev pub zero_ended : List ℕ → List ℕ
 zero_ended words = words ++ 0 ∷ []
 

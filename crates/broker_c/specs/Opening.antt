@@ -17,10 +17,10 @@ use Rattle.broker_c.specs.Handle.{HoldsWorld, IsBusy, IsShut}
 use Rattle.broker_c.specs.declared.codes.Why.{Why}
 use Rattle.broker_c.specs.declared.handle.Handle.{Handle}
 use Rattle.broker_c.specs.declared.limits.Limits.{Limits}
-use Rattle.broker_c.specs.declared.limits.Table.{Table}
+use Rattle.broker_c.specs.declared.limits.TableSpec.{TableSpec}
 use Rattle.broker_c.specs.declared.opening.OpenError.{OpenError}
-use Rattle.broker_c.specs.declared.opening.OpenError.TheVariants.{Limit, Table as Refused, Memory}
-use Rattle.broker_c.specs.declared.slot.Slot.{Slot}
+use Rattle.broker_c.specs.declared.opening.OpenError.TheVariants.{BadLimit, BadTable, Memory}
+use Rattle.broker_c.specs.declared.slot.HandleSlot.{HandleSlot}
 
 -- ---- the limits
 
@@ -44,10 +44,10 @@ limit_place Appliers = 5
 
 -- ---- the tables
 
-abbrev pub table_shape : Table → Shape
+abbrev pub table_shape : TableSpec → Shape
 table_shape table = record { name = table.name.now; flags = table.key.now }
 
-abbrev pub table_shapes : List Table → List Shape
+abbrev pub table_shapes : List TableSpec → List Shape
 table_shapes tables = map table_shape tables
 
 -- the numbers of a refused table: its place, from 0, and 0 for its shape or 1 for its name
@@ -64,19 +64,19 @@ pub record IsBegun (limits : desk.Limits) (schema : List Shape) (b : Handle) : T
 
 -- The limits are in their ranges, the tables fit, and the handle's world is empty, with these
 -- limits and tables.
-pub record IsOpened (limits : Limits) (tables : List Table) (b : Handle) : Type 0 where
+pub record IsOpened (limits : Limits) (tables : List TableSpec) (b : Handle) : Type 0 where
   pub in_range : limits_refusal limits ≡ None
   pub fit : tables_refusal [] (table_shapes tables) ≡ None
   pub begun : IsBegun (desk_limits limits) (table_shapes tables) b
 
-abbrev pub RefusesSchema : OpenError → List Table → Type 0
-RefusesSchema (Limit fault) tables = ⊥
-RefusesSchema (Refused fault) tables = tables_refusal [] (table_shapes tables) ≡ Some fault
+abbrev pub RefusesSchema : OpenError → List TableSpec → Type 0
+RefusesSchema (BadLimit fault) tables = ⊥
+RefusesSchema (BadTable fault) tables = tables_refusal [] (table_shapes tables) ≡ Some fault
 RefusesSchema Memory tables = Unit {0}
 
-abbrev pub RefusesOpening : OpenError → Limits → List Table → Type 0
-RefusesOpening (Limit fault) limits tables = limits_refusal limits ≡ Some fault
-RefusesOpening (Refused fault) limits tables = (limits_refusal limits ≡ None)
+abbrev pub RefusesOpening : OpenError → Limits → List TableSpec → Type 0
+RefusesOpening (BadLimit fault) limits tables = limits_refusal limits ≡ Some fault
+RefusesOpening (BadTable fault) limits tables = (limits_refusal limits ≡ None)
     × (tables_refusal [] (table_shapes tables) ≡ Some fault)
 RefusesOpening Memory limits tables = limits_refusal limits ≡ None
 
@@ -89,7 +89,7 @@ pub record HasBadLimit (limits : Limits) (is : Why) : Type 0 where
   pub why : is ≡ numbers (limit_place fault) 0
 
 -- the limits are in their ranges, a table is refused, and these are its numbers
-pub record HasBadTable (limits : Limits) (tables : List Table) (is : Why) : Type 0 where
+pub record HasBadTable (limits : Limits) (tables : List TableSpec) (is : Why) : Type 0 where
   pub in_range : limits_refusal limits ≡ None
   pub fault : TableFault
   pub refused : tables_refusal [] (table_shapes tables) ≡ Some fault
@@ -98,7 +98,7 @@ pub record HasBadTable (limits : Limits) (tables : List Table) (is : Why) : Type
 -- What the result of `broker_open` says: 0, -2 if memory ran out, -4 for the first bad limit, or -5
 -- for the first bad table. A negative one leaves the slot as it was. Only -4 and -5 set the
 -- numbers.
-abbrev pub Opens : ℤ → Limits → List Table → Slot → Slot → Why → Why → Type 0
+abbrev pub Opens : ℤ → Limits → List TableSpec → HandleSlot → HandleSlot → Why → Why → Type 0
 Opens (pos n) limits tables before after was is = (n ≡ 0) × (after.full ≡ true)
     × IsOpened limits tables after.held × (is ≡ was)
 Opens (negsuc zero) limits tables before after was is = ⊥
@@ -121,5 +121,5 @@ TellsWhy (negsuc n) b was is = ⊥
 
 -- What C hands to `broker_free`: a null pointer, or a handle that `broker_open` gave out and that
 -- nothing has freed. So a pointer that isn't null has a handle.
-abbrev pub IsHandleOrNull : Slot → Type 0
+abbrev pub IsHandleOrNull : HandleSlot → Type 0
 IsHandleOrNull slot = InBlock slot.pointer → slot.full ≡ true

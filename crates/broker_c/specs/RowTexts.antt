@@ -24,11 +24,11 @@ header_before tables None table = header_of (slice_get tables table)
 header_before tables (Some last) table = if last == table then []
     else header_of (slice_get tables table)
 
--- a row of a table, behind one of the table `last`
+-- a row of a table, after one of the table `last`
 abbrev pub row_changeset : List Shape → Option ℕ → ℕ → List Value → List ℕ
 row_changeset tables last table row = header_before tables last table ++ insert_bytes row
 
--- rows in their order, each table's behind its header
+-- rows in their order, those of each table after its header
 abbrev pub rows_changeset : List Shape → Option ℕ → List (RowKey × List Value) → List ℕ
 rows_changeset tables last [] = []
 rows_changeset tables last (row ∷ rows) =

@@ -1,4 +1,4 @@
--- What the calls that tell rows say. The world behind the handle stays the same.
+-- What the calls that return rows say. The world behind the handle stays the same.
 use Rattle.std.specs.Prelude.{◌≡◌, ◌<◌, ℕ, ℤ, pos, negsuc, zero, suc, List, [], ◌∷◌, length}
 use Rattle.std.specs.Prelude.{Option, Some, None, Result, Ok, Err, nat_lt, if◌then◌else◌, slice_get}
 use Rattle.std.specs.FinMap as map
@@ -68,7 +68,7 @@ HasTable (Some tables) table = table < length tables.schema
 abbrev pub tables_in : State → ℕ → Option TableState
 tables_in world s = option_map (λ end. end.tables) (slice_get world.endpoints s)
 
--- What `broker_rows` tells: the length of the text of all rows of a subscription, and the text if
+-- What `broker_rows` returns: the length of the text of all rows of a subscription, and the text if
 -- there was room; or -30 if there is no subscription; or -2 for one that is there.
 abbrev pub ReadsRows : ℤ → ℕ → Handle → Handle → List ℕ → List ℕ → Type 0
 ReadsRows result s before after was is =

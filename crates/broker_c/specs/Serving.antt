@@ -11,7 +11,7 @@ use Rattle.rb_core.specs.declared.reply.Reply.TheVariants as reply
 use Rattle.broker_c.specs.Codes.{code, numbers_after}
 use Rattle.broker_c.specs.Handle.{HoldsWorld, IsBusy, IsShut, KeepsWorld}
 use Rattle.broker_c.specs.declared.handle.Handle.{Handle}
-use Rattle.broker_c.specs.declared.serving.Taken.{Taken}
+use Rattle.broker_c.specs.declared.serving.DeliveryFields.{DeliveryFields}
 
 -- ---- the results of a call
 
@@ -71,7 +71,7 @@ link_after (reply.Subscriber number link) before = link
 link_after other before = before
 
 -- the delivery that a reply gives, or the one from before
-abbrev pub taken_after : Reply → Taken → Taken
+abbrev pub taken_after : Reply → DeliveryFields → DeliveryFields
 taken_after (reply.Delivery delivery) before = record {
   number = delivery.number;
   subscription = delivery.sub;
@@ -100,7 +100,7 @@ ServesLink result event before after was is link_was link_is =
     ((is ≡ was) × (link_is ≡ link_was))
 
 -- a call with a delivery as its output
-abbrev pub ServesTaken : ℤ → Event → Handle → Handle → Taken → Taken → Type 0
+abbrev pub ServesTaken : ℤ → Event → Handle → Handle → DeliveryFields → DeliveryFields → Type 0
 ServesTaken result event before after was is =
     Serves result event before after (λ reply. is ≡ taken_after reply was) (is ≡ was)
 

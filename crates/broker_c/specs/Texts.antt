@@ -1,4 +1,4 @@
--- What the calls that read a broker tell. The world behind the handle stays the same.
+-- What the calls that read a broker return. The world behind the handle stays the same.
 use Rattle.std.specs.Prelude.{◌≡◌, ℕ, ℤ, pos, negsuc, zero, suc, List, length}
 use Rattle.std.specs.Prelude.{Option, Some, None, slice_get}
 use Rattle.std.specs.Option.{option_map}
@@ -30,7 +30,7 @@ pub record ReadsWorld (before after : Handle) (IsSo : State → Type 0) : Type 0
   pub so : IsSo world
 
 -- What the result says: -1 for a handle that is shut, and -6 for one that another call is in, of
--- which nothing changed; any other result tells something of the world.
+-- which nothing changed; any other result says something of the world.
 abbrev pub TellsOf : ℤ → Handle → Handle → (ℤ → State → Type 0) → Type 0 → Type 0
 TellsOf (pos n) before after IsSo Same = ReadsWorld before after (IsSo (pos n))
 TellsOf (negsuc zero) before after IsSo Same = IsShut before × (after ≡ before) × Same
@@ -108,7 +108,7 @@ IsCursorOf (negsuc n) (Some cursor) was is = ⊥
 abbrev pub cursor_in : State → ℕ → Option ℕ
 cursor_in world s = option_map (λ end. end.cursor) (slice_get world.endpoints s)
 
--- What `broker_cursor` tells: 0 and a subscription's cursor, or -30 if there is none.
+-- What `broker_cursor` returns: 0 and a subscription's cursor, or -30 if there is none.
 abbrev pub ReadsCursor : ℤ → ℕ → Handle → Handle → ℕ → ℕ → Type 0
 ReadsCursor result s before after was is =
     TellsOf result before after (λ z world. IsCursorOf z (cursor_in world s) was is) (is ≡ was)
@@ -140,12 +140,12 @@ ReadsStatus result s before after was is =
     TellsOf result before after (λ z world. IsStatusOf z (subscription_status world s) was is)
     (is ≡ was)
 
--- What `broker_front` tells: 0 and the last number placed.
+-- What `broker_front` returns: 0 and the last number placed.
 abbrev pub ReadsFront : ℤ → Handle → Handle → ℕ → ℕ → Type 0
 ReadsFront result before after was is =
     TellsOf result before after (λ z world. (z ≡ pos 0) × (is ≡ length world.sequence)) (is ≡ was)
 
--- What `broker_left` tells: 0 and how many changesets are sent and not placed.
+-- What `broker_left` returns: 0 and the number of changesets that are sent and not placed.
 abbrev pub ReadsLeft : ℤ → Handle → Handle → ℕ → ℕ → Type 0
 ReadsLeft result before after was is =
     TellsOf result before after (λ z world. (z ≡ pos 0) × (is ≡ how_many_wait world)) (is ≡ was)

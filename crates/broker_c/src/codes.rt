@@ -23,7 +23,7 @@ pub const WAITING: i32 = -23;
 /// No entry has this number.
 pub const NOT_PLACED: i32 = -16;
 /// No subscription has this number.
-pub const NO_SUBSCRIPTION: i32 = -30;
+pub const NO_SUCH: i32 = -30;
 /// The broker has no table at this place.
 pub const NO_TABLE: i32 = -46;
 /// The table has no row with this key.
@@ -93,7 +93,7 @@ fn refusal_code(why: BrokerRefusal) -> i32
         BrokerRefusal::UnknownTable(_) => -20,
         BrokerRefusal::ShapeDiffers(_) => -21,
         Desk(DeskRefusal::JournalFull) => -22,
-        Desk(DeskRefusal::NoSuch) => NO_SUBSCRIPTION,
+        Desk(DeskRefusal::NoSuch) => NO_SUCH,
         Desk(DeskRefusal::StaleLink) | Accept(AcceptRefusal::StaleLink) => -31,
         Desk(DeskRefusal::WindowFull) => -32,
         BrokerRefusal::NoDelivery => -33,

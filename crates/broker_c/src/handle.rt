@@ -8,7 +8,7 @@ ghost use Rattle.rb_core.specs.Placing.{MayStarve, placing};
 ghost use Rattle.broker_c.specs.Codes as codes;
 
 use crate::codes::{Why, placing_why, why_after};
-use crate::parts::Parts;
+use crate::parts::BoxParts;
 use crate::seal::Seal;
 use rb_core::{Event, PlacingError, PlacingRefusal, Reply, World};
 use std::alloc::{AllocError, Global};
@@ -36,7 +36,7 @@ impl Handle {
         Handle {
             is_open: true,
             is_busy: false,
-            seal: Seal::of_parts(Parts::of(world)),
+            seal: Seal::of_parts(BoxParts::of(world)),
             why,
         }
     }
@@ -89,7 +89,7 @@ impl Handle {
         self.is_open = true;
         self.is_busy = false;
         self.why = why;
-        mem::replace(&mut self.seal, Seal::of_parts(Parts::of(world))).end();
+        mem::replace(&mut self.seal, Seal::of_parts(BoxParts::of(world))).end();
     }
 
     /// Ends the handle's last call, which has let the world go.

@@ -24,7 +24,7 @@ pub struct Limits {
 /// of the primary key.
 #[derive(Clone, Copy)]
 #[repr(C)]
-pub struct Table<'a> {
+pub struct TableSpec<'a> {
     pub name: &'a [u8],
     pub key: &'a [u8],
 }
@@ -70,7 +70,7 @@ pub fn table_why(fault: TableFault) -> Why
 }
 
 // a copy of a table
-fn shape_of(alloc: Global, table: &Table) -> Result<Shape, AllocError>
+fn shape_of(alloc: Global, table: &TableSpec) -> Result<Shape, AllocError>
     ensures { IfOk result (λ shape. shape ≡ opening.table_shape table.now) }
 {
     let name = Seq::from_slice(alloc, table.name)?;
@@ -79,7 +79,7 @@ fn shape_of(alloc: Global, table: &Table) -> Result<Shape, AllocError>
 }
 
 /// Copies of the tables.
-pub fn shapes_of(alloc: Global, tables: &[Table]) -> Result<Vec<Shape>, AllocError>
+pub fn shapes_of(alloc: Global, tables: &[TableSpec]) -> Result<Vec<Shape>, AllocError>
     ensures { IfOk result (λ shapes. shapes.items ≡ opening.table_shapes tables.now) }
 {
     let mut shapes = Vec::new(alloc);

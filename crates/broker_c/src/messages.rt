@@ -6,8 +6,8 @@ ghost use Rattle.broker_c.specs.Messages as messages;
 
 use cs_write::put_bytes;
 
-/// Writes the words of a code, and a zero byte behind them, to the front of `out` if there is room.
-/// Returns how many bytes these are, 64 at most.
+/// Writes the words of a code, and a zero byte after them, to the front of `out` if there is room.
+/// Returns the number of these bytes, 64 at most.
 #[unsafe(no_mangle)]
 pub extern "C" fn broker_message(code: i32, out: &mut [u8]) -> i64
     ensures len { result ≡ pos (length (messages.message_of code)) }
@@ -31,7 +31,7 @@ fn message_into(words: &str, out: &mut [u8]) -> i64
     len as i64
 }
 
-// writes the words, and a zero byte behind them
+// writes the words, and a zero byte after them
 fn put_ended(words: &[u8], out: &mut [u8])
     requires { length (messages.zero_ended words.now) ≤ length out.old }
     ensures { out.new ≡ given (messages.zero_ended words.now) out.old }

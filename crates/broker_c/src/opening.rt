@@ -1,4 +1,4 @@
-//! The calls that give out a handle, let go of its world, free it, and tell its numbers.
+//! The calls that make a handle, free its world, free it, and return its numbers.
 
 ghost use Rattle.std.specs.Prelude.{◌≡◌, ◌&&◌, [], IfErr, IfOk, None, false, not};
 ghost use Rattle.std.specs.Box.{box_value};
@@ -10,9 +10,9 @@ ghost use Rattle.broker_c.specs.Opening as opening;
 
 use crate::codes::{BAD_LIMIT, BAD_TABLE, BUSY, NO_MEMORY, SHUT, Why, numbers};
 use crate::handle::Handle;
-use crate::limits::{Limits, Table, config_of, place_of, shapes_of, table_why};
-use crate::parts::Parts;
-use crate::slot::Slot;
+use crate::limits::{Limits, TableSpec, config_of, place_of, shapes_of, table_why};
+use crate::parts::BoxParts;
+use crate::slot::HandleSlot;
 use cs_model::{Schema, TableFault};
 use rb_core::{Config, ConfigFault, World};
 use std::alloc::{AllocError, Global};
@@ -22,14 +22,14 @@ use std::mem;
 #[derive(Clone, Copy)]
 pub(crate) enum OpenError {
     // this limit is out of its range
-    Limit(ConfigFault),
+    BadLimit(ConfigFault),
     // this table is refused
-    Table(TableFault),
+    BadTable(TableFault),
     Memory,
 }
 
 // the tables as a schema
-fn schema_of(alloc: Global, tables: &[Table]) -> Result<Schema, OpenError>
+fn schema_of(alloc: Global, tables: &[TableSpec]) -> Result<Schema, OpenError>
     ensures ok { IfOk result (λ schema. schema ≡ opening.table_shapes tables.now) }
     ensures fit { IfOk result (λ schema.
         tables_refusal [] (opening.table_shapes tables.now) ≡ None) }
@@ -38,7 +38,7 @@ fn schema_of(alloc: Global, tables: &[Table]) -> Result<Schema, OpenError>
     let Ok(shapes) = shapes_of(alloc, tables) else {
         return Err(OpenError::Memory);
     };
-    Schema::new(shapes).map_err(|refused| OpenError::Table(refused.fault))
+    Schema::new(shapes).map_err(|refused| OpenError::BadTable(refused.fault))
 }
 
 // a handle over an empty world, in a box
@@ -52,7 +52,7 @@ fn begun(alloc: Global, config: Config, schema: Schema) -> Result<Box<Handle>, A
 pub(crate) fn opened(
     alloc: Global,
     limits: &Limits,
-    tables: &[Table],
+    tables: &[TableSpec],
 ) -> Result<Box<Handle>, OpenError>
     ensures ok { IfOk result (λ broker.
         opening.IsOpened limits.now tables.now (box_value broker)) }
@@ -60,7 +60,7 @@ pub(crate) fn opened(
 {
     let config = match config_of(limits) {
         Ok(config) => config,
-        Err(fault) => return Err(OpenError::Limit(fault)),
+        Err(fault) => return Err(OpenError::BadLimit(fault)),
     };
     let schema = schema_of(alloc, tables)?;
     begun(alloc, config, schema).map_err(|_| OpenError::Memory)
@@ -77,9 +77,9 @@ pub(crate) fn opened(
 #[unsafe(no_mangle)]
 pub extern "C" fn broker_open(
     alloc: Global,
-    out: &mut Slot,
+    out: &mut HandleSlot,
     limits: &Limits,
-    tables: &[Table],
+    tables: &[TableSpec],
     why: &mut Why,
 ) -> i32
     requires { out.old.full ≡ false }
@@ -87,14 +87,14 @@ pub extern "C" fn broker_open(
 {
     match opened(alloc, limits, tables) {
         Ok(broker) => {
-            mem::replace(out, Slot::of_parts(Parts::of(broker))).end();
+            mem::replace(out, HandleSlot::of_parts(BoxParts::of(broker))).end();
             0
         }
-        Err(OpenError::Limit(fault)) => {
+        Err(OpenError::BadLimit(fault)) => {
             *why = numbers(place_of(fault), 0);
             BAD_LIMIT
         }
-        Err(OpenError::Table(fault)) => {
+        Err(OpenError::BadTable(fault)) => {
             *why = table_why(fault);
             BAD_TABLE
         }
@@ -120,7 +120,7 @@ pub extern "C" fn broker_shut(alloc: Global, broker: &mut Handle)
 /// Frees a handle with everything behind it. No call may be given it again. A null pointer is no
 /// handle, and nothing is done.
 #[unsafe(no_mangle)]
-pub extern "C" fn broker_free(_alloc: Global, slot: Slot)
+pub extern "C" fn broker_free(_alloc: Global, slot: HandleSlot)
     requires { IsHandleOrNull slot }
 {
     match slot.tested() {

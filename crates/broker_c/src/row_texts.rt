@@ -28,7 +28,7 @@ pub fn text_of_rows(
     Ok(text)
 }
 
-// a row of this table behind one of the table `last`
+// a row of this table, after one of the table `last`
 fn push_row(
     text: &mut Vec<u8>,
     tables: &[Shape],

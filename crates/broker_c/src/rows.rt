@@ -1,13 +1,13 @@
-//! The calls that tell rows, as the text of a changeset with an INSERT for each row. They leave the
-//! broker and its numbers as they are, and return -1 if the handle is shut, or -6 if another call
-//! is in it.
+//! The calls that return rows, as the text of a changeset with an INSERT for each row. They do not
+//! change the broker and its numbers, and return -1 if the handle is shut, or -6 if another call is
+//! in it.
 
 ghost use Rattle.std.specs.Prelude.{◌≡◌, IfOk};
 ghost use Rattle.std.specs.Option.{option_copied, option_map};
 ghost use Rattle.broker_c.specs.Rows.{HasTable, IsMade, IsTableThere, ReadsRow, ReadsRows};
 ghost use Rattle.broker_c.specs.Rows as texts;
 
-use crate::codes::{NO_MEMORY, NO_ROW, NO_SUBSCRIPTION, NO_TABLE};
+use crate::codes::{NO_MEMORY, NO_ROW, NO_SUCH, NO_TABLE};
 use crate::handle::Handle;
 use crate::reading::told;
 use crate::row_texts::text_of_rows;
@@ -63,7 +63,7 @@ fn rows_into(alloc: Global, tables: Option<&Tables>, out: &mut [u8]) -> i64
         (texts.all_rows_found (option_copied tables.entry)) out.old out.new }
 {
     let Some(tables) = tables else {
-        return i64::from(NO_SUBSCRIPTION);
+        return i64::from(NO_SUCH);
     };
     match text_of_tables(alloc, tables) {
         Ok(text) => text_into(&text, out),
@@ -84,7 +84,7 @@ fn row_into(alloc: Global, tables: Option<&Tables>, table: u64, key: &[u8], out:
         (texts.row_found (option_copied tables.entry) table key.now) out.old out.new }
 {
     let Some(tables) = tables else {
-        return i64::from(NO_SUBSCRIPTION);
+        return i64::from(NO_SUCH);
     };
     if tables.schema().tables().len() as u64 <= table {
         return i64::from(NO_TABLE);

@@ -5,7 +5,7 @@ ghost use Rattle.std.specs.Prelude.{◌≡◌, Bool, true, false};
 ghost use Rattle.rb_core.specs.contracts.world.World as world;
 ghost use Rattle.broker_c.specs.Boxed.{owns_if};
 
-use crate::parts::Parts;
+use crate::parts::BoxParts;
 use rb_core::World;
 use std::alloc::Global;
 use std::marker::Model;
@@ -46,10 +46,10 @@ impl Seal {
     }
 
     /// A seal of the parts of a world's box.
-    pub fn of_parts(parts: Parts<World, Global>) -> Seal
+    pub fn of_parts(parts: BoxParts<World, Global>) -> Seal
         ensures { (result.full ≡ true) × (result.held ≡ parts.value) }
     {
-        let Parts { pointer, alloc } = parts;
+        let BoxParts { pointer, alloc } = parts;
         Seal {
             pointer: pointer as *mut u8,
             alloc,
@@ -57,12 +57,12 @@ impl Seal {
     }
 
     /// The parts of the world's box, from a seal that has one.
-    pub fn into_parts(self) -> Parts<World, Global>
+    pub fn into_parts(self) -> BoxParts<World, Global>
         requires { self.full ≡ true }
         ensures { result.value ≡ self.held }
     {
         let Seal { pointer, alloc } = self;
-        Parts {
+        BoxParts {
             pointer: pointer as *mut World,
             alloc,
         }

@@ -12,14 +12,14 @@ use std::alloc::Global;
 /// A delivery, as C gets one: its number, its subscription's, and those of its entries.
 #[derive(Clone, Copy)]
 #[repr(C)]
-pub struct Taken {
+pub struct DeliveryFields {
     pub number: u64,
     pub subscription: u64,
     pub first: u64,
     pub last: u64,
 }
 
-// The code of an event's reply, behind which `$set` sets the outputs; -1 if the handle is shut, -6
+// The code of an event's reply, after which `$set` sets the outputs; -1 if the handle is shut, -6
 // if another call is in it, or -2 if memory runs out.
 macro_rules! served {
     ($alloc:ident, $broker:ident, $event:ident, |$reply:ident| $set:block) => {{
@@ -74,7 +74,12 @@ pub fn serve_link(
 }
 
 /// As `serve`, and sets `taken` to the delivery that the reply gives, if it gives one.
-pub fn serve_taken(alloc: Global, broker: &mut Handle, event: &Event, taken: &mut Taken) -> i32
+pub fn serve_taken(
+    alloc: Global,
+    broker: &mut Handle,
+    event: &Event,
+    taken: &mut DeliveryFields,
+) -> i32
     ensures { ServesTaken result event.now broker.old broker.new taken.old taken.new }
 {
     served!(alloc, broker, event, |reply| {
@@ -109,11 +114,11 @@ fn link_after(reply: &Reply, before: u64) -> u64
     }
 }
 
-fn taken_after(reply: &Reply, before: Taken) -> Taken
+fn taken_after(reply: &Reply, before: DeliveryFields) -> DeliveryFields
     ensures { result ≡ serving.taken_after reply.now before }
 {
     match reply {
-        Reply::Delivery(delivery) => Taken {
+        Reply::Delivery(delivery) => DeliveryFields {
             number: delivery.number(),
             subscription: delivery.sub(),
             first: delivery.first(),

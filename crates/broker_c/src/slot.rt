@@ -6,60 +6,60 @@ ghost use Rattle.broker_c.specs.Boxed.{owns_if};
 ghost use Rattle.broker_c.specs.contracts.handle.Handle as handle;
 
 use crate::handle::Handle;
-use crate::parts::Parts;
+use crate::parts::BoxParts;
 use std::alloc::Global;
 use std::marker::Model;
 use std::ptr;
 
 /// A handle's box, or nothing. It owns the handle if it is `full`, and `held` is the handle then.
 #[repr(C)]
-pub struct Slot {
+pub struct HandleSlot {
     pointer: *mut u8,
     alloc: Global,
     pub ghost full: { Bool },
     pub ghost held: { handle.the_row.Denot } by { handle.the_row.coded },
 }
 
-impl Model for Slot {
+impl Model for HandleSlot {
     ghost also_owns = { λ s. owns_if handle.the_row s.full s.alloc s.pointer s.held };
 }
 
-impl Slot {
+impl HandleSlot {
     /// Ends a slot that has nothing.
     pub fn end(self)
         requires { self.full ≡ false }
     {
-        let Slot {
+        let HandleSlot {
             pointer: _,
             alloc: _,
         } = self;
     }
 
     /// A slot of the parts of a handle's box.
-    pub fn of_parts(parts: Parts<Handle, Global>) -> Slot
+    pub fn of_parts(parts: BoxParts<Handle, Global>) -> HandleSlot
         ensures { (result.full ≡ true) × (result.held ≡ parts.value) }
     {
-        let Parts { pointer, alloc } = parts;
-        Slot {
+        let BoxParts { pointer, alloc } = parts;
+        HandleSlot {
             pointer: pointer as *mut u8,
             alloc,
         }
     }
 
     /// The parts of the handle's box, from a slot that has one.
-    pub fn into_parts(self) -> Parts<Handle, Global>
+    pub fn into_parts(self) -> BoxParts<Handle, Global>
         requires { self.full ≡ true }
         ensures { result.value ≡ self.held }
     {
-        let Slot { pointer, alloc } = self;
-        Parts {
+        let HandleSlot { pointer, alloc } = self;
+        BoxParts {
             pointer: pointer as *mut Handle,
             alloc,
         }
     }
 
     /// The slot, and whether it has a handle: whether its pointer isn't null.
-    pub fn tested(self) -> (Slot, bool)
+    pub fn tested(self) -> (HandleSlot, bool)
         requires { InBlock self.pointer → self.full ≡ true }
         ensures { (result.0 ≡ self) × (result.1 ≡ self.full) }
     {
@@ -68,4 +68,4 @@ impl Slot {
     }
 }
 
-unsafe impl Send for Slot {}
+unsafe impl Send for HandleSlot {}

@@ -2,14 +2,14 @@
 //!
 //! Every call returns the code of its reply: 0, or a negative one. It returns -1 if the handle is
 //! shut, -6 if another call is in it, and -2 if memory runs out. A call with a negative code sets
-//! no output, and changes nothing but the numbers that `broker_why` tells. All but `broker_accept`
-//! and `broker_crash` return -22 where the journal is full.
+//! no output, and changes nothing but the numbers that `broker_why` returns. All but
+//! `broker_accept` and `broker_crash` return -22 where the journal is full.
 
 ghost use Rattle.rb_core.specs.declared.event.Event.TheVariants as event;
 ghost use Rattle.broker_c.specs.Serving.{ServesAlone, ServesLink, ServesNumber, ServesTaken};
 
 use crate::handle::Handle;
-use crate::serving::{Taken, serve, serve_link, serve_number, serve_taken};
+use crate::serving::{DeliveryFields, serve, serve_link, serve_number, serve_taken};
 use rb_core::Event;
 use std::alloc::Global;
 
@@ -68,7 +68,7 @@ pub extern "C" fn broker_take(
     broker: &mut Handle,
     subscription: u64,
     now: u64,
-    taken: &mut Taken,
+    taken: &mut DeliveryFields,
 ) -> i32
     ensures { ServesTaken result (event.Take subscription now) broker.old broker.new taken.old
         taken.new }
@@ -83,7 +83,7 @@ pub extern "C" fn broker_take_any(
     alloc: Global,
     broker: &mut Handle,
     now: u64,
-    taken: &mut Taken,
+    taken: &mut DeliveryFields,
 ) -> i32
     ensures { ServesTaken result (event.TakeAny now) broker.old broker.new taken.old taken.new }
 {

@@ -2,13 +2,13 @@
 //! contracts state the rest.
 
 use crate::handle::Handle;
-use crate::limits::{Limits, Table};
+use crate::limits::{Limits, TableSpec};
 use crate::messages::broker_message;
 use crate::opening::{broker_shut, opened};
 use crate::placing::broker_place;
 use crate::publishers::{broker_end, broker_feed, broker_publisher, broker_send, broker_turn};
 use crate::rows::{broker_row, broker_rows};
-use crate::serving::Taken;
+use crate::serving::DeliveryFields;
 use crate::subscriptions::{
     broker_accept, broker_ack, broker_subscribe, broker_subscribe_bare, broker_take,
 };
@@ -45,7 +45,7 @@ fn publishes(rt: &impl Abort, alloc: Global, broker: &mut Handle) {
 // a subscription takes, accepts and settles it
 fn delivers(rt: &impl Abort, alloc: Global, broker: &mut Handle) {
     let (mut number, mut link, mut cursor, mut floor) = (7, 7, 7, 7);
-    let mut taken = Taken {
+    let mut taken = DeliveryFields {
         number: 7,
         subscription: 7,
         first: 7,
@@ -93,7 +93,7 @@ fn tells_rows(rt: &impl Abort, alloc: Global, broker: &mut Handle) {
 // a subscription that keeps no rows accepts the changeset, and has none
 fn keeps_none(rt: &impl Abort, alloc: Global, broker: &mut Handle) {
     let (mut number, mut link, mut cursor) = (7, 7, 7);
-    let mut taken = Taken {
+    let mut taken = DeliveryFields {
         number: 7,
         subscription: 7,
         first: 7,
@@ -178,7 +178,7 @@ fn sent<T: Send>(value: T) -> T {
 #[test]
 fn a_changeset_goes_through(rt: HostRuntime) -> Result<(), Fail> {
     let alloc = rt.alloc();
-    let tables = [Table {
+    let tables = [TableSpec {
         name: b"t",
         key: &[1, 0],
     }];

@@ -1,5 +1,5 @@
 //! The calls that read a broker and leave it as it is. They don't change the numbers that
-//! `broker_why` tells, and return -1 if the handle is shut, or -6 if another call is in it.
+//! `broker_why` returns, and return -1 if the handle is shut, or -6 if another call is in it.
 
 ghost use Rattle.std.specs.Prelude.{◌≡◌, IfOk, OnErr, OnOk, length, pos};
 ghost use Rattle.cs_write.specs.Buffer.{given};
@@ -12,7 +12,7 @@ ghost use Rattle.broker_c.specs.Texts.{ReadsAbout, ReadsCombined, ReadsCursor, R
 ghost use Rattle.broker_c.specs.Texts.{ReadsLeft, ReadsStatus, ReadsText};
 ghost use Rattle.broker_c.specs.Texts as texts;
 
-use crate::codes::{NO_MEMORY, NO_SUBSCRIPTION, NOT_PLACED};
+use crate::codes::{NO_MEMORY, NO_SUCH, NOT_PLACED};
 use crate::handle::Handle;
 use crate::reading::told;
 use crate::writing::text_into;
@@ -217,7 +217,7 @@ fn status_into(world: &World, subscription: u64, status: &mut Standing) -> i32
             *status = status_for_c(found);
             0
         }
-        None => NO_SUBSCRIPTION,
+        None => NO_SUCH,
     }
 }
 
@@ -246,6 +246,6 @@ fn cursor_into(world: &World, subscription: u64, cursor: &mut u64) -> i32
             *cursor = found;
             0
         }
-        None => NO_SUBSCRIPTION,
+        None => NO_SUCH,
     }
 }

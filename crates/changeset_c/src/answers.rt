@@ -5,7 +5,7 @@ ghost use Rattle.cs_write.specs.Buffer.{given};
 ghost use Rattle.changeset_c.specs.Says.{CanonicalSays, CheckSays, InvertSays, KeptBut};
 ghost use Rattle.changeset_c.specs.Says.{inverse_text};
 
-use crate::results::{NO_CHANGESET, NO_MEMORY, length_told};
+use crate::results::{NO_MEMORY, NONE, length_told};
 use cs_invert::write_inverse;
 use cs_model::TextChangeset;
 use cs_parse::{ParseError, count_changes, parse, parse_in_place};
@@ -24,7 +24,7 @@ pub fn check(text: &[u8], fault_at: &mut usize, fault_kind: &mut u32) -> i64
         Err(fault) => {
             *fault_at = fault.at;
             *fault_kind = fault.kind.number();
-            NO_CHANGESET
+            NONE
         }
     }
 }
@@ -40,7 +40,7 @@ pub fn canonical(alloc: Global, text: &[u8], out: &mut [u8]) -> i64
             Ok(len) => len as i64,
             Err(_) => NO_MEMORY,
         },
-        Err(ParseError::Fault(_)) => NO_CHANGESET,
+        Err(ParseError::Fault(_)) => NONE,
         Err(ParseError::Memory) => NO_MEMORY,
     }
 }
@@ -51,7 +51,7 @@ pub fn inverted(alloc: Global, text: &[u8], out: &mut [u8]) -> i64
 {
     match parse_in_place(alloc, text) {
         Ok(changeset) => written(alloc, &changeset, out).unwrap_or(NO_MEMORY),
-        Err(ParseError::Fault(_)) => NO_CHANGESET,
+        Err(ParseError::Fault(_)) => NONE,
         Err(ParseError::Memory) => NO_MEMORY,
     }
 }

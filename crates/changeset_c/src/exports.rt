@@ -16,7 +16,7 @@ ghost use Rattle.changeset_c.specs.Says.{KeptBut, inverse_text};
 use crate::answers::{canonical, check, inverted};
 use crate::combining::{CombineError, Text, combined};
 use crate::reading::texts_are_read_so;
-use crate::results::{CLASH, NO_CHANGESET, NO_MEMORY};
+use crate::results::{CLASH, NO_MEMORY, NONE};
 use cs_parse::laws::every_text;
 use std::alloc::Global;
 
@@ -117,7 +117,7 @@ pub extern "C" fn changeset_combine(
             *fault_text = text;
             *fault_at = fault.at;
             *fault_kind = fault.kind.number();
-            NO_CHANGESET
+            NONE
         }
         Err(CombineError::Clash { text, section }) => {
             *fault_text = text;

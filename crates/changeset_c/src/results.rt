@@ -5,13 +5,13 @@ ghost use Rattle.std.specs.Prelude.{◌≡◌, ◌≤◌, ◌^◌, IfOk, OnErr, 
 use std::alloc::AllocError;
 
 /// A text spells no changeset.
-pub const NO_CHANGESET: i64 = -1;
+pub const NONE: i64 = -1;
 /// Memory ran out.
 pub const NO_MEMORY: i64 = -2;
 /// A section's table has the name of an earlier one's, and another shape.
 pub const CLASH: i64 = -3;
 
-/// A text's length. No memory holds a text that is longer than an `i64` tells.
+/// A text's length. No memory holds a text whose length is above the greatest `i64`.
 pub fn length_told(len: usize) -> Result<i64, AllocError>
     ensures told { IfOk result (λ n. n ≡ pos len) }
     ensures too_long { OnErr result (2 ^ 63 ≤ len) }

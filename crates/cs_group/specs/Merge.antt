@@ -74,7 +74,7 @@ only_change_by Delete flags new = Some new
 abbrev pub only_change : List ℕ → Change → Option Change
 only_change flags new = only_change_by new.op flags new
 
--- ---- two changes, row by row of the table in docs/DEFINITIONS.md
+-- ---- two changes, row by row of the table in docs/proof/DEFINITIONS.md
 
 -- a merged change is indirect if both are
 abbrev pub both_indirect : Change → Change → Bool
@@ -101,8 +101,8 @@ abbrev pub delete_insert : List ℕ → Change → Change → Option Change
 delete_insert flags there new =
     update_between flags (both_indirect there new) there.before new.after
 
--- The change that two changes of one row come to, or none. INSERT, then DELETE is none. A second
--- one that can't come after the first is ignored.
+-- The change into which two changes of one row merge, or none. INSERT, then DELETE is none. A
+-- second one that can't come after the first is ignored.
 abbrev pub two_changes_by : Op → Op → List ℕ → Change → Change → Option Change
 two_changes_by Insert Insert flags there new = Some there
 two_changes_by Insert Update flags there new = insert_update there new

@@ -13,7 +13,7 @@ use cs_model::laws::changes_fit;
 use cs_model::{SectionRef, Sections, ShapeRef};
 use std::alloc::{AllocError, Global};
 
-/// The rows of a table, each with the change that its changes come to, or none.
+/// The rows of a table, each with its merged change, or none where its changes cancel out.
 #[derive(Drop)]
 pub(crate) struct Rows<'s, 'a> {
     shape: &'s ShapeRef<'a>,

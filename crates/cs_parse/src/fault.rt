@@ -1,6 +1,6 @@
 //! The errors of parsing: each fault that a text can have, and its place. The comments of SQLite's
 //! `sqlite3session.c` describe the changeset format. This project defines which byte has the fault
-//! (docs/DEFINITIONS.md, Faults).
+//! (docs/proof/DEFINITIONS.md, Faults).
 
 ghost use Rattle.std.specs.Prelude.{◌≡◌};
 ghost use Rattle.cs_parse.specs.FaultNumber.{kind_number};

@@ -12,6 +12,7 @@ use Rattle.rb_desk.specs.Limits.{Limits}
 use Rattle.rb_desk.specs.Calls.{subscribe}
 use Rattle.rb_desk.specs.declared.step.Step.{Step}
 use Rattle.rb_desk.specs.declared.step.Step.TheVariants.{Subscribe}
+use Rattle.rb_history.specs.Kept.{count_under}
 use Rattle.rb_subscriber.specs.Owner.{OthersSince, Owner, desk_after, has_seen}
 use Rattle.rb_subscriber.specs.Subscription.{SubscriptionState}
 use Rattle.rb_broker.specs.Holding.{IsSchemaWhy, MakesSubscription, RefusesAsDesk, RefusesTables, own_step}
@@ -56,7 +57,8 @@ why_is : (base : TableState) (own : List Shape) (why : SubscribeError) (start : 
 why_is base own OtherSchema start old new same h = absurd h
 why_is base own (Desk error) start old new same h = same
 
-pub tables_come_back : (result : Result SubscriptionState RefusedSubscription) (base : TableState) (own : List Shape) (start : ℕ)
+pub tables_come_back : (result : Result SubscriptionState RefusedSubscription) (base : TableState) (own : List Shape)
+    (start : ℕ)
     (old new : JournaledPicture) → base.schema ≡ own → MakesSubscription result base start old new
     → IfErr result (RefusesTables own base)
 tables_come_back (Ok s) base own start old new same h = tt
@@ -70,18 +72,21 @@ why_after : (limits : Limits) (why : SubscribeError) (start : ℕ) (me mine : Ow
     → RefusesAsDesk why start old new → RefusesAfterDesk limits why start me mine
 why_after limits OtherSchema start me mine log grown old new since held grows seen h = absurd h
 why_after limits (Desk error) start me mine log grown old new since held grows seen h =
-    returns limits (Err error) (λ p. subscribe p start) (Subscribe start) me mine log grown old new since held grows seen h
+    returns limits (Err error) (λ p. subscribe p start) (Subscribe start) me mine log grown old new since held grows
+    seen h
 
 pub subscribes_after : (limits : Limits) (result : Result SubscriptionState RefusedSubscription) (base : TableState)
     (start : ℕ) (me mine : Owner) (log grown : List (ℕ × Step)) (old new : JournaledPicture) → OthersSince me log
     → (old ≡ desk_after limits log) × (new ≡ desk_after limits grown)
     → grown ≡ log ++ own_step result me.number (Subscribe start) → mine ≡ has_seen me grown
-    → IfOk result (λ s. s.owner.seen ≡ mine.seen) → MakesSubscription result base start old new
+    → IfOk result (λ s. (s.owner.seen ≡ mine.seen) × (count_under s.owner.number mine.seen ≡ 0))
+    → MakesSubscription result base start old new
     → SubscribesAfterDesk limits result start me mine
 subscribes_after limits (Ok s) base start me mine log grown old new since held grows seen own h = (
-  own,
-  returns limits (Ok (s.sub, s.link)) (λ p. subscribe p start) (Subscribe start) me mine log grown old new since held grows
-      seen h.1,
+  own.0,
+  own.1,
+  returns limits (Ok (s.sub, s.link)) (λ p. subscribe p start) (Subscribe start) me mine log grown old new since held
+      grows seen h.1,
 )
 subscribes_after limits (Err refused) base start me mine log grown old new since held grows seen own h =
     why_after limits refused.why start me mine log grown old new since held grows seen h.1

@@ -11,23 +11,24 @@ use Rattle.rb_sequence.specs.Cells.{Cells, CellToken, LastToken}
 use Rattle.rb_sequence.specs.Entry.{Entry}
 use Rattle.rb_subscriber.specs.Owner.{OthersSince, Owner, desk_after, has_seen}
 use Rattle.rb_broker.specs.declared.refusal.Occupied.TheVariants.{Next, Set}
-use Rattle.rb_broker.specs.declared.refusal.PlaceRefusal.{PlaceRefusal}
-use Rattle.rb_broker.specs.declared.refusal.PlaceRefusal.TheVariants.{JournalFull}
-use Rattle.rb_broker.specs.declared.refusal.PlaceRefusal.TheVariants.{Closed, SequenceFull}
-use Rattle.rb_broker.specs.declared.refusal.PlaceRefusal.TheVariants.{Occupied, Memory}
+use Rattle.rb_broker.specs.declared.refusal.PlaceError.{PlaceError}
+use Rattle.rb_broker.specs.declared.refusal.PlaceError.TheVariants.{JournalFull}
+use Rattle.rb_broker.specs.declared.refusal.PlaceError.TheVariants.{Closed, SequenceFull}
+use Rattle.rb_broker.specs.declared.refusal.PlaceError.TheVariants.{Occupied, Memory}
 use Rattle.rb_broker.specs.declared.refusal.RefusedItem.{RefusedItem}
 use Rattle.rb_broker.specs.Holding.{own_step}
 use Rattle.rb_broker.specs.Placing.{ClosesBoth, DeskCloses, DeskPlaces, DeskRefuses, PlacesEntry, RefusesPlace}
 use Rattle.rb_broker.specs.Placing.{ShowsWhy, closing_step, number_to_place}
 
 -- the desk refuses so, when the owner has seen the whole history
-pub told_of_desk : (limits : Limits) (cells : Cells) (number : ℕ) (why : PlaceRefusal) (me mine : Owner)
+pub told_of_desk : (limits : Limits) (cells : Cells) (number : ℕ) (why : PlaceError) (me mine : Owner)
     (log : List (ℕ × Step)) (desk : JournaledPicture) → OthersSince me log → desk ≡ desk_after limits log
     → mine ≡ has_seen me log → RefusesPlace cells number desk why → DeskRefuses limits cells number why me mine
 told_of_desk limits cells number why me mine log desk since was seen is = by why here
   where
-    Told : PlaceRefusal → Type 0
-    Told w = OthersSince me mine.seen × RefusesPlace cells number (desk_after limits mine.seen) w × (mine.number ≡ me.number)
+    Told : PlaceError → Type 0
+    Told w = OthersSince me mine.seen × RefusesPlace cells number (desk_after limits mine.seen) w × (mine.number ≡
+        me.number)
 
     saw : log ≡ mine.seen
     saw = sym (ap (λ (o : Owner). o.seen) seen)
@@ -39,7 +40,7 @@ told_of_desk limits cells number why me mine log desk since was seen is = by why
       ap (λ (o : Owner). o.number) seen,
     )
 
-    by : (w : PlaceRefusal) → Told w → DeskRefuses limits cells number w me mine
+    by : (w : PlaceError) → Told w → DeskRefuses limits cells number w me mine
     by JournalFull t = t
     by (Closed told) t = t
     by SequenceFull t = t
@@ -47,7 +48,7 @@ told_of_desk limits cells number why me mine log desk since was seen is = by why
     by Memory t = absurd t.1
 
 -- what a refusal shows by itself
-pub refusal_shows : (cells : Cells) (number : ℕ) (desk : JournaledPicture) (why : PlaceRefusal)
+pub refusal_shows : (cells : Cells) (number : ℕ) (desk : JournaledPicture) (why : PlaceError)
     → RefusesPlace cells number desk why → ShowsWhy cells number why
 refusal_shows cells number desk JournalFull is = tt
 refusal_shows cells number desk (Closed told) is = is.1.1
@@ -83,7 +84,8 @@ placing_places limits (Ok told) cells entry me mine log grown old new since held
   since.0,
   record {
     apart = since.2;
-    next = ap number_to_place (ap (desk_after limits) since.1 ∙ sym held.0) ∙ is.1 ∙ ap (λ (n : ℕ). Ok n) (sym is.0.number);
+    next = ap number_to_place (ap (desk_after limits) since.1 ∙ sym held.0) ∙ is.1 ∙ ap (λ (n : ℕ). Ok n) (sym
+        is.0.number);
     seen = seen ∙ ap (has_seen me) (grows ∙ ap (λ l. l ++ (me.number, Place) ∷ []) (sym since.1));
   },
 )
@@ -103,7 +105,8 @@ closing_told limits (Some told) cells me mine log grown old new since held grows
         last = closes.1 ∙ ap (λ (d : JournaledPicture). (close d.picture).0) was;
         seen = seen ∙ ap (has_seen me) (grows
             ∙ ap (λ l. l ++ closing_step (Some told) me.number old.picture.closing) (sym since.1)
-            ∙ ap (λ (d : JournaledPicture). (me.seen ++ since.0) ++ closing_step (Some told) me.number d.picture.closing) was);
+            ∙ ap (λ (d : JournaledPicture). (me.seen ++ since.0) ++ closing_step (Some told) me.number
+            d.picture.closing) was);
       },
     )
 closing_told limits None cells me mine log grown old new since held grows seen closes = (

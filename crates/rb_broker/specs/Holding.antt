@@ -95,6 +95,7 @@ RefusesAfterDesk limits (subscribing.Desk error) start old new =
 abbrev pub SubscribesAfterDesk : Limits → Result SubscriptionState RefusedSubscription → ℕ → Owner
     → Owner → Type 0
 SubscribesAfterDesk limits (Ok s) start old new = (s.owner.seen ≡ new.seen)
+    × (count_under s.owner.number new.seen ≡ 0)
     × DeskReturns limits (Ok (s.sub, s.link)) (λ p. subscribe p start) (Subscribe start) old new
 SubscribesAfterDesk limits (Err refused) start old new =
     RefusesAfterDesk limits refused.why start old new
@@ -133,9 +134,14 @@ ShowsDrained cells cursor (taking.Desk error) =
 
 -- ---- auditing
 
--- an auditor that has heard these subscriptions too
-abbrev pub heard_too : AuditorState → List SubscriptionState → AuditorState
-heard_too auditor all = record {
+-- how many subscriptions this history made
+abbrev pub made_after : Limits → List (ℕ × Step) → ℕ
+made_after limits history = length (desk_after limits history).picture.subscriptions
+
+-- an auditor that has heard these subscriptions too, when the history is this one
+abbrev pub heard_too : AuditorState → List SubscriptionState → List (ℕ × Step) → AuditorState
+heard_too auditor all history = record {
   sum = auditor.sum + all_steps all;
   heard = auditor.heard + length all;
+  seen = history;
 }

@@ -1,4 +1,4 @@
-pub mod Halls
+pub mod Brands
 pub mod Holding
 pub mod Placing
 pub mod Publishers

@@ -19,8 +19,8 @@ use Rattle.rb_sequence.specs.Item.{Item}
 use Rattle.rb_subscriber.specs.Owner.{OthersSince, Owner, desk_after, has_seen}
 use Rattle.rb_broker.specs.declared.refusal.Occupied.{Occupied}
 use Rattle.rb_broker.specs.declared.refusal.Occupied.TheVariants.{Next, Set}
-use Rattle.rb_broker.specs.declared.refusal.PlaceRefusal.{PlaceRefusal}
-use Rattle.rb_broker.specs.declared.refusal.PlaceRefusal.TheVariants as placing
+use Rattle.rb_broker.specs.declared.refusal.PlaceError.{PlaceError}
+use Rattle.rb_broker.specs.declared.refusal.PlaceError.TheVariants as placing
 use Rattle.rb_broker.specs.declared.refusal.RefusedItem.{RefusedItem}
 
 -- the token shows that the cell of the entry's number holds the entry
@@ -41,7 +41,7 @@ IsLastPulled pass item number = (before : List Item) × (pass.pulled ≡ before 
 
 -- What a refusal to place this number shows: the last number of a closed sequence; which other
 -- number is placed next; or which entry the cell of this one holds.
-abbrev pub ShowsWhy : Cells → ℕ → PlaceRefusal → Type 0
+abbrev pub ShowsWhy : Cells → ℕ → PlaceError → Type 0
 ShowsWhy cells number placing.JournalFull = Unit {0}
 ShowsWhy cells number (placing.Closed told) = IsLastToken cells told
 ShowsWhy cells number placing.SequenceFull = Unit {0}
@@ -58,7 +58,7 @@ IsOccupied cells number next (Set token) = IsOccupantOf cells token × (token.nu
     × (next ≡ number)
 
 -- why an item isn't placed under this number, by what the desk's `prepare` returns
-abbrev pub IsWhy : Cells → Option ℕ → ℕ → Result ℕ DeskRefusal → PlaceRefusal → Type 0
+abbrev pub IsWhy : Cells → Option ℕ → ℕ → Result ℕ DeskRefusal → PlaceError → Type 0
 IsWhy cells closing number prepared placing.JournalFull = prepared ≡ Err desk.JournalFull
 IsWhy cells closing number prepared (placing.Closed told) = (prepared ≡ Err desk.Closed)
     × ShowsClosing cells closing (Some told)
@@ -72,7 +72,7 @@ abbrev pub number_to_place : JournaledPicture → Result ℕ DeskRefusal
 number_to_place desk = answer_after (length desk.steps) (prepare desk.picture)
 
 -- why the desk doesn't place this number
-abbrev pub RefusesPlace : Cells → ℕ → JournaledPicture → PlaceRefusal → Type 0
+abbrev pub RefusesPlace : Cells → ℕ → JournaledPicture → PlaceError → Type 0
 RefusesPlace cells number desk why =
     IsWhy cells desk.picture.closing number (number_to_place desk) why
 
@@ -87,7 +87,7 @@ PlacesEntry (Err refused) cells entry old new = (refused.item ≡ entry.item)
 
 -- The desk refuses to place this number so, after the history that the owner had seen and the steps
 -- that others made since. The owner makes no step. Where memory runs out, the desk isn't asked.
-abbrev pub DeskRefuses : Limits → Cells → ℕ → PlaceRefusal → Owner → Owner → Type 0
+abbrev pub DeskRefuses : Limits → Cells → ℕ → PlaceError → Owner → Owner → Type 0
 DeskRefuses limits cells number placing.Memory old new = new ≡ old
 DeskRefuses limits cells number why old new = OthersSince old new.seen
     × RefusesPlace cells number (desk_after limits new.seen) why × (new.number ≡ old.number)

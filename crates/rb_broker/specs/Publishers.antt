@@ -6,8 +6,8 @@ use Rattle.cs_model.specs.declared.shape.Shape.{Shape}
 use Rattle.cs_model.specs.Section.{Section}
 use Rattle.cs_invert.specs.Inverse.{withdrawal_of}
 use Rattle.cs_parse.specs.Progress.{Progress, nothing}
-use Rattle.rb_broker.specs.declared.refusal.AddRefusal.{AddRefusal}
-use Rattle.rb_broker.specs.declared.refusal.AddRefusal.TheVariants.{TooMany, Memory}
+use Rattle.rb_broker.specs.declared.refusal.AddError.{AddError}
+use Rattle.rb_broker.specs.declared.refusal.AddError.TheVariants.{TooMany, Memory}
 use Rattle.rb_sequence.specs.Cells.{Cells, CellToken, IsTokenOf, LastToken}
 use Rattle.rb_sequence.specs.Item.{Item}
 
@@ -54,7 +54,7 @@ new_publisher number schema = record {
 
 -- What the maker of publishers, who made so many, returns, and how many it made then. The new one
 -- has the next number, counted from 0, and there are at most 64.
-abbrev pub MakesPublisher : List Shape → Result PublisherView AddRefusal → ℕ → ℕ → Type 0
+abbrev pub MakesPublisher : List Shape → Result PublisherView AddError → ℕ → ℕ → Type 0
 MakesPublisher schema (Ok p) old new = (p ≡ new_publisher old schema) × (old < 64) × (new ≡ suc old)
 MakesPublisher schema (Err TooMany) old new = (old ≡ 64) × (new ≡ old)
 MakesPublisher schema (Err Memory) old new = (old < 64) × (new ≡ old)

@@ -13,8 +13,8 @@ use Rattle.rb_sequence.specs.Entry.{Entry}
 use Rattle.rb_broker.specs.Publishers.{PublisherView, StagedView}
 use Rattle.rb_broker.specs.declared.refusal.SendRefusal.{SendRefusal}
 use Rattle.rb_broker.specs.declared.refusal.SendRefusal.TheVariants as send
-use Rattle.rb_broker.specs.declared.refusal.WithdrawRefusal.{WithdrawRefusal}
-use Rattle.rb_broker.specs.declared.refusal.WithdrawRefusal.TheVariants as withdraw
+use Rattle.rb_broker.specs.declared.refusal.WithdrawError.{WithdrawError}
+use Rattle.rb_broker.specs.declared.refusal.WithdrawError.TheVariants as withdraw
 
 -- the set comes back; a closed sequence shows its last number
 abbrev pub SendsNothing : {L : Type 0} → Cells → StagedView → SendRefusal L → Type 0
@@ -45,7 +45,7 @@ IsOpenTo p withdrawn number entry =
 -- Why publisher p, who withdrew these entries, can't withdraw the entry of this number, which a
 -- token shows. It is another publisher's; or p's, and withdrawn already; or p's, and not withdrawn,
 -- and memory runs out: no two sections of its changeset clash.
-abbrev pub RefusesWithdrawal : Cells → ℕ → List ℕ → ℕ → WithdrawRefusal → Type 0
+abbrev pub RefusesWithdrawal : Cells → ℕ → List ℕ → ℕ → WithdrawError → Type 0
 RefusesWithdrawal cells p withdrawn number withdraw.NotPlaced = Unit {0}
 RefusesWithdrawal cells p withdrawn number (withdraw.NotYours told) =
     IsEntryOf cells number told × (told.entry.item.publisher ≡ p → ⊥)

@@ -7,11 +7,11 @@ ghost use Rattle.rb_sequence.specs.{Cells.{IsLastToken}, Items.{CountsUp}};
 ghost use Rattle.rb_broker.specs.Placing.{DeskCloses, DeskPlaces, DeskRefuses, IsLastPulled};
 ghost use Rattle.rb_broker.specs.Placing.{ShowsEntry, ShowsWhy};
 
-use crate::hall::Hall;
+use crate::brand::BrokerBrand;
 use crate::locked::{Locked, refused};
 use crate::maker::PublisherMaker;
 use crate::opened::Opened;
-use crate::refusal::{PlaceRefusal, RefusedItem};
+use crate::refusal::{PlaceError, RefusedItem};
 use cs_model::Schema;
 use rb_desk::Config;
 use rb_intake::{Intake, NothingWaits, SequencerPass};
@@ -23,7 +23,7 @@ use std::sync::{Arc, Mutex, Wait};
 
 /// A broker. Threads share it by reference.
 #[derive(Drop)]
-pub struct Broker<L: Hall> {
+pub struct Broker<L: BrokerBrand> {
     config: Config,
     pub(crate) schema: Arc<Schema>,
     sequence: Sequence,
@@ -39,7 +39,7 @@ pub struct Broker<L: Hall> {
 /// A broker that was started, with what its owners are made of. There is one of
 /// each.
 #[derive(Drop)]
-pub struct Started<L: Hall> {
+pub struct Started<L: BrokerBrand> {
     pub broker: Broker<L>,
     /// The pass for its sequencer.
     pub sequencer: SequencerPass,
@@ -53,8 +53,8 @@ pub struct Started<L: Hall> {
     pub keeper: Stake<L>,
 }
 
-impl<L: Hall> Broker<L> {
-    /// Starts a broker that was opened, in a hall of its own.
+impl<L: BrokerBrand> Broker<L> {
+    /// Starts a broker that was opened, under a brand of its own.
     pub fn start(opened: Opened) -> Started<L>
         requires sequence { (opened.limits ≡ L.limits) × (opened.cells ≡ L.cells) }
         requires queue { opened.queue ≡ L.queue }
@@ -63,12 +63,12 @@ impl<L: Hall> Broker<L> {
         ensures sequencer { result.sequencer
             ≡ record { queue = L.queue; pulled = []; ended = [] } }
         ensures publishers { result.publishers ≡ 0 }
-        ensures auditor { result.auditor ≡ record { sum = 0; heard = 0 } }
+        ensures auditor { result.auditor ≡ record { sum = 0; heard = 0; seen = [] } }
         ensures seen { (result.placer.seen ≡ []) × (result.keeper.seen ≡ []) }
         ensures schema { arc_value result.broker.schema ≡ opened.schema }
     {
-        let (register, auditor) = Register::open(opened.blank);
         let mut history = opened.history;
+        let (register, auditor) = Register::open(opened.blank, &mut history);
         let placer = Stake::new(&mut history, opened.placer);
         let keeper = Stake::new(&mut history, opened.keeper);
         let broker = Broker {
@@ -164,7 +164,7 @@ impl<L: Hall> Broker<L> {
             DeskRefuses L.limits L.cells number refused.why placer.old placer.new) }
     {
         let Ok(form) = item.form(alloc) else {
-            let why = PlaceRefusal::Memory;
+            let why = PlaceError::Memory;
             return Err(RefusedItem { why, item });
         };
         let entry = Entry::new(alloc, number, item, form);
@@ -177,7 +177,7 @@ impl<L: Hall> Broker<L> {
                 let mut locked = self.locked.lock(rt);
                 locked.place(placer, ready)
             }
-            Err(failed) => Err(refused(PlaceRefusal::Memory, failed.value)),
+            Err(failed) => Err(refused(PlaceError::Memory, failed.value)),
         }
     }
 

@@ -1,20 +1,24 @@
 //! The broker's calls for subscriptions: each is one hold of its lock.
 
-ghost use Rattle.std.specs.Prelude.{◌≡◌, ◌+◌, IfErr, IfOk, Ok, OnErr, OnOk};
+ghost use Rattle.std.specs.Prelude.{◌≡◌, ◌+◌, length, IfErr, IfOk, Ok, OnErr, OnOk};
 ghost use Rattle.std.specs.Arc.{arc_value};
 ghost use Rattle.std.specs.Bool.{Decides};
+ghost use mathlib.Core.List.{IsPrefix};
 ghost use Rattle.rb_desk.specs.Calls.{ack, expire, nack, nack_opened, reconnect, take, take_any};
 ghost use Rattle.rb_desk.specs.Calls.{unsubscribe};
+ghost use Rattle.rb_desk.specs.Journaled.{counted_steps, is_own};
 ghost use Rattle.rb_desk.specs.declared.step.Step.TheVariants as step;
 ghost use Rattle.rb_subscriber.specs.Lost.{FitsLost, gone_on};
+ghost use Rattle.rb_subscriber.specs.Owner.{steps_made};
+ghost use Rattle.rb_subscriber.specs.Register.{HaveSeenTheirs};
 ghost use Rattle.rb_subscriber.specs.Subscription.{cursor_of, new_subscription, with_owner};
 ghost use Rattle.rb_broker.specs.Holding.{DeskReturns, RefusesTables, ShowsDrained};
 ghost use Rattle.rb_broker.specs.Holding.{SubscribesAfterDesk, counted_step, desk_answer};
-ghost use Rattle.rb_broker.specs.Holding.{ended_step, heard_too, relinked_step};
+ghost use Rattle.rb_broker.specs.Holding.{ended_step, heard_too, made_after, relinked_step};
 ghost use Rattle.rb_broker.specs.Resuming.{ReconnectReturns, ResumesNothing};
 
+use crate::brand::BrokerBrand;
 use crate::broker::Broker;
-use crate::hall::Hall;
 use crate::refusal::{RefusedResume, RefusedSubscription, ResumeError, SubscribeError, TakeError};
 use cs_apply::Tables;
 use rb_desk::{Delivery, DeskError};
@@ -23,8 +27,8 @@ use std::alloc::Global;
 use std::sync::Wait;
 
 /// The calls for subscriptions. Each takes the lock once, and is one call of the desk then, which
-/// refuses as the desk does. A refused call changes nothing.
-impl<L: Hall> Broker<L> {
+/// refuses as the desk does. A refused call is no step, but its owner has seen the history then.
+impl<L: BrokerBrand> Broker<L> {
     /// Makes a subscription to the numbers after `start`, with these tables.
     ///
     /// Refuses `OtherSchema` first of all, then `StartAhead` and `TooMany` as the desk does. The
@@ -275,8 +279,12 @@ impl<L: Hall> Broker<L> {
     /// givings back, reconnections and unsubscribings the journal has: it is the sum of the steps
     /// of all subscriptions that the auditor heard. It is no step.
     ///
-    /// Returns `Missing`, with the subscriptions, if the auditor has not heard all that were made,
-    /// with these.
+    /// The auditor has seen the whole history of the broker's steps then: what it had seen before,
+    /// and more. Each of these subscriptions had seen all of its own steps in it, with their kinds
+    /// and operands.
+    ///
+    /// Returns `Missing`, with the subscriptions, exactly if the auditor has not heard all that
+    /// were made, with these. The auditor has seen the history all the same.
     pub fn audit<R: Wait>(
         &self,
         rt: &R,
@@ -284,11 +292,19 @@ impl<L: Hall> Broker<L> {
         subscriptions: Vec<Subscription<L>>,
     ) -> Result<u64, Missing<L>>
         ensures sum { IfOk result (λ sum. sum ≡ auditor.new.sum) }
-        ensures heard { OnOk result
-            (auditor.new ≡ heard_too auditor.old subscriptions.items) }
+        ensures journal { IfOk result (λ sum.
+            sum ≡ counted_steps is_own (steps_made auditor.new.seen)) }
+        ensures heard { OnOk result (auditor.new
+            ≡ heard_too auditor.old subscriptions.items auditor.new.seen) }
+        ensures all { OnOk result (auditor.new.heard ≡ made_after L.limits auditor.new.seen) }
+        ensures own { OnOk result (HaveSeenTheirs subscriptions.items auditor.new.seen) }
         ensures missing { IfErr result (λ missing.
-            missing.subscriptions.items ≡ subscriptions.items) }
-        ensures err { OnErr result (auditor.new ≡ auditor.old) }
+            (missing.subscriptions.items ≡ subscriptions.items)
+            × (auditor.old.heard + length subscriptions.items
+            ≡ made_after L.limits auditor.new.seen → ⊥)) }
+        ensures err { OnErr result
+            (auditor.new ≡ record auditor.old { seen = auditor.new.seen }) }
+        ensures seen { IsPrefix auditor.old.seen auditor.new.seen }
     {
         let mut locked = self.locked.lock(rt);
         locked.audit(auditor, subscriptions)

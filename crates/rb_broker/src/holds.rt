@@ -1,68 +1,31 @@
-//! What one hold of the broker's lock does for subscriptions: the desk's call, the count of the
+//! What one hold of the broker's lock does for a subscription: the desk's call, the count of the
 //! step, and its place in the history.
 
-ghost use Rattle.std.specs.Prelude.{◌≡◌, ◌+◌, ◌++◌, ◌∷◌, [], ◌<◌, ◌^◌, Err, IfErr, IfOk, Ok, OnErr};
-ghost use Rattle.std.specs.Prelude.{OnOk};
-ghost use Rattle.rb_desk.specs.Calls.{ack, expire, nack, nack_opened, reconnect, take, take_any};
-ghost use Rattle.rb_desk.specs.Calls.{unsubscribe};
-ghost use Rattle.rb_desk.specs.Journaled.{IsReplay, JournalAnswers, counted_steps, is_own};
+ghost use Rattle.std.specs.Prelude.{◌≡◌, ◌+◌, ◌++◌, ◌∷◌, [], ◌<◌, ◌^◌, IfErr, IfOk, OnErr, OnOk};
+ghost use Rattle.rb_desk.specs.Calls.{ack, nack, nack_opened, reconnect, take, unsubscribe};
+ghost use Rattle.rb_desk.specs.Journaled.{IsReplay, JournalAnswers};
 ghost use Rattle.rb_desk.specs.declared.step.Step.TheVariants as step;
 ghost use Rattle.rb_subscriber.specs.Lost.{FitsLost};
 ghost use Rattle.rb_subscriber.specs.Owner.{OthersSince, has_seen};
 ghost use Rattle.rb_subscriber.specs.Subscription.{cursor_of, with_owner};
-ghost use Rattle.rb_broker.specs.Holding.{AreReplays, IsAtEnd, MakesSubscription, ShowsDrained};
-ghost use Rattle.rb_broker.specs.Holding.{counted_step, desk_answer, desk_error, ended_step};
-ghost use Rattle.rb_broker.specs.Holding.{heard_too, own_step, relinked_step};
+ghost use Rattle.rb_broker.specs.Holding.{AreReplays, IsAtEnd, ShowsDrained, counted_step};
+ghost use Rattle.rb_broker.specs.Holding.{desk_answer, desk_error, ended_step, own_step};
+ghost use Rattle.rb_broker.specs.Holding.{relinked_step};
 ghost use Rattle.rb_broker.specs.Resuming.{ResumesAsDesk};
 
-use crate::hall::Hall;
+use crate::brand::BrokerBrand;
 use crate::locked::Locked;
-use crate::refusal::{RefusedResume, RefusedSubscription, ResumeError, SubscribeError, TakeError};
+use crate::refusal::{RefusedResume, ResumeError, TakeError};
 use cs_apply::Tables;
 use rb_desk::laws::{
     drained_is_at_the_end, only_subscribe_and_close, steps_are_counted, takes_are_as_asked,
 };
 use rb_desk::{Delivery, Desk, DeskError, DeskRefusal, Step};
 use rb_history::Chronicle;
-use rb_subscriber::{Auditor, Lost, Missing, Register, Stake, Subscription};
+use rb_subscriber::{Lost, Register, Subscription};
 use std::alloc::Global;
 
-impl<L: Hall> Locked<L> {
-    /// The desk's `subscribe`, and the subscription that it numbers.
-    pub(crate) fn subscribe(
-        &mut self,
-        alloc: Global,
-        keeper: &mut Stake<L>,
-        tables: Tables,
-        start: u64,
-    ) -> Result<Subscription<L>, RefusedSubscription>
-        ensures made { MakesSubscription result tables start self.old.desk self.new.desk }
-        ensures held { AreReplays L.limits self.old.desk self.old.history.log self.new.desk
-            self.new.history.log }
-        ensures others { OthersSince keeper.old self.old.history.log }
-        ensures log { self.new.history.log ≡ self.old.history.log
-            ++ own_step result keeper.old.number (step.Subscribe start) }
-        ensures seen { keeper.new ≡ has_seen keeper.old self.new.history.log }
-        ensures own { IfOk result (λ s. s.owner.seen ≡ keeper.new.seen) }
-    {
-        steps_are_counted();
-        only_subscribe_and_close();
-        let _few = self.desk.steps();
-        keeper.catch_up(&mut self.history);
-        match self.desk.subscribe(alloc, start) {
-            Ok((sub, link)) => {
-                let _steps = self.desk.steps();
-                let own = keeper.enroll(&mut self.history, &Step::Subscribe { start });
-                let register = &mut self.register;
-                Ok(register.subscribe(alloc, sub, link, start, tables, own))
-            }
-            Err(error) => Err(RefusedSubscription {
-                why: SubscribeError::Desk(error),
-                tables,
-            }),
-        }
-    }
-
+impl<L: BrokerBrand> Locked<L> {
     /// The desk's `take` for a subscription, at its cursor.
     pub(crate) fn take(
         &mut self,
@@ -136,32 +99,6 @@ impl<L: Hall> Locked<L> {
             }
             (error, _) => TakeError::Desk(error),
         }
-    }
-
-    /// The desk's `take_any`.
-    pub(crate) fn take_any(
-        &mut self,
-        alloc: Global,
-        keeper: &mut Stake<L>,
-        now: u64,
-    ) -> Result<Delivery, DeskError>
-        ensures desk { JournalAnswers result (take_any self.old.desk.picture now)
-            (step.TakeAny now) self.old.desk self.new.desk }
-        ensures held { AreReplays L.limits self.old.desk self.old.history.log self.new.desk
-            self.new.history.log }
-        ensures others { OthersSince keeper.old self.old.history.log }
-        ensures log { self.new.history.log ≡ self.old.history.log
-            ++ own_step result keeper.old.number (step.TakeAny now) }
-        ensures seen { keeper.new ≡ has_seen keeper.old self.new.history.log }
-    {
-        steps_are_counted();
-        only_subscribe_and_close();
-        let _few = self.desk.steps();
-        keeper.catch_up(&mut self.history);
-        let delivery = self.desk.take_any(alloc, now)?;
-        let _steps = self.desk.steps();
-        keeper.append(&mut self.history, &Step::TakeAny { now });
-        Ok(delivery)
     }
 
     /// The desk's `ack` of a delivery, for a subscription at its cursor.
@@ -305,33 +242,6 @@ impl<L: Hall> Locked<L> {
         Ok(count)
     }
 
-    /// The desk's `expire`.
-    pub(crate) fn expire(
-        &mut self,
-        alloc: Global,
-        keeper: &mut Stake<L>,
-        now: u64,
-    ) -> Result<u64, DeskError>
-        ensures desk { JournalAnswers result
-            (Ok (expire self.old.desk.picture now).0, (expire self.old.desk.picture now).1)
-            (step.Expire now) self.old.desk self.new.desk }
-        ensures held { AreReplays L.limits self.old.desk self.old.history.log self.new.desk
-            self.new.history.log }
-        ensures others { OthersSince keeper.old self.old.history.log }
-        ensures log { self.new.history.log ≡ self.old.history.log
-            ++ own_step result keeper.old.number (step.Expire now) }
-        ensures seen { keeper.new ≡ has_seen keeper.old self.new.history.log }
-    {
-        steps_are_counted();
-        only_subscribe_and_close();
-        let _few = self.desk.steps();
-        keeper.catch_up(&mut self.history);
-        let count = self.desk.expire(alloc, now)?;
-        let _steps = self.desk.steps();
-        keeper.append(&mut self.history, &Step::Expire { now });
-        Ok(count)
-    }
-
     /// The desk's `reconnect` of a subscription, at its cursor. It has the new link then.
     pub(crate) fn reconnect(
         &mut self,
@@ -460,31 +370,11 @@ impl<L: Hall> Locked<L> {
         subscription.close();
         Ok(())
     }
-
-    /// The register's `audit`: how many steps of the subscriptions' own the journal has.
-    pub(crate) fn audit(
-        &mut self,
-        auditor: &mut Auditor<L>,
-        subscriptions: Vec<Subscription<L>>,
-    ) -> Result<u64, Missing<L>>
-        ensures journal { IfOk result (λ sum. sum ≡ counted_steps is_own self.old.desk.steps) }
-        ensures sum { IfOk result (λ sum. sum ≡ auditor.new.sum) }
-        ensures heard { OnOk result
-            (auditor.new ≡ heard_too auditor.old subscriptions.items) }
-        ensures err { OnErr result (auditor.new ≡ auditor.old) }
-        ensures missing { IfErr result (λ missing.
-            missing.subscriptions.items ≡ subscriptions.items) }
-        ensures desk { self.new.desk ≡ self.old.desk }
-    {
-        steps_are_counted();
-        let _few = self.desk.steps();
-        self.register.audit(auditor, subscriptions)
-    }
 }
 
 // Counts a step that the desk has made for a subscription, and adds it to the history. The
 // subscription has seen all steps before it.
-fn note<L: Hall>(
+fn note<L: BrokerBrand>(
     desk: &Desk,
     register: &mut Register<L>,
     all: &mut Chronicle<Step>,

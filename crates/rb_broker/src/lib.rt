@@ -4,10 +4,11 @@
 //! journal.
 #![tactic(auto)]
 
+mod brand;
 mod broker;
 mod calls;
-mod hall;
 mod holds;
+mod keeper_holds;
 pub mod laws;
 mod locked;
 mod maker;
@@ -16,13 +17,13 @@ mod publisher;
 mod refusal;
 mod staged;
 
+pub use brand::BrokerBrand;
 pub use broker::{Broker, Started};
-pub use hall::Hall;
 pub use maker::{MOST_PUBLISHERS, PublisherMaker};
 pub use opened::Opened;
 pub use publisher::Publisher;
 pub use refusal::{
-    AddRefusal, Occupied, PlaceRefusal, RefusedItem, RefusedResume, RefusedSubscription,
-    ResumeError, SendRefusal, SubscribeError, TakeError, WithdrawRefusal,
+    AddError, Occupied, PlaceError, RefusedItem, RefusedResume, RefusedSubscription, ResumeError,
+    SendRefusal, SubscribeError, TakeError, WithdrawError,
 };
 pub use staged::StagedSet;

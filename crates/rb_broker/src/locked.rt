@@ -11,8 +11,8 @@ ghost use Rattle.rb_broker.specs.Holding.{AreReplays, own_step};
 ghost use Rattle.rb_broker.specs.Placing.{ClosesBoth, PlacesEntry, RefusesPlace, closing_step};
 ghost use Rattle.rb_broker.specs.Placing.{ShowsClosing, number_to_place};
 
-use crate::hall::Hall;
-use crate::refusal::{Occupied, PlaceRefusal, RefusedItem};
+use crate::brand::BrokerBrand;
+use crate::refusal::{Occupied, PlaceError, RefusedItem};
 use rb_desk::laws::{only_subscribe_and_close, steps_are_counted};
 use rb_desk::{Desk, DeskRefusal, Step};
 use rb_history::Chronicle;
@@ -25,7 +25,7 @@ use rb_subscriber::{Register, Stake};
 /// subscriptions as the desk. The history has the journal's steps, each with its owner's number,
 /// and the desk is what they lead to.
 #[derive(Drop)]
-pub(crate) struct Locked<L: Hall> {
+pub(crate) struct Locked<L: BrokerBrand> {
     pub(crate) desk: Desk,
     pub(crate) filler: Filler,
     pub(crate) register: Register<L>,
@@ -43,7 +43,7 @@ pub(crate) struct Locked<L: Hall> {
     ghost replays: { desk ≡ desk_after L.limits history.log },
 }
 
-impl<L: Hall> Locked<L> {
+impl<L: BrokerBrand> Locked<L> {
     /// Sets the cell of the entry's number, and places that number: a step of the placer. Does not
     /// allocate.
     pub(crate) fn place(&mut self, placer: &mut Stake<L>, ready: Ready) -> Result<Told, RefusedItem>
@@ -64,7 +64,7 @@ impl<L: Hall> Locked<L> {
         match self.desk.prepare() {
             Err(why) => Err(refused(self.place_refusal(why, number), ready.into_entry())),
             Ok(next) if next != number => {
-                let why = PlaceRefusal::Occupied(Occupied::Next(next));
+                let why = PlaceError::Occupied(Occupied::Next(next));
                 Err(refused(why, ready.into_entry()))
             }
             Ok(_) => match self.filler.fill(ready) {
@@ -75,7 +75,7 @@ impl<L: Hall> Locked<L> {
                     Ok(told)
                 }
                 Err(AlreadySet { entry, occupant }) => {
-                    let why = PlaceRefusal::Occupied(Occupied::Set(occupant));
+                    let why = PlaceError::Occupied(Occupied::Set(occupant));
                     Err(refused(why, entry))
                 }
             },
@@ -83,7 +83,7 @@ impl<L: Hall> Locked<L> {
     }
 
     /// Why a number without a cell isn't placed.
-    pub(crate) fn refuses(&mut self, placer: &mut Stake<L>, number: u64) -> PlaceRefusal
+    pub(crate) fn refuses(&mut self, placer: &mut Stake<L>, number: u64) -> PlaceError
         requires { HasCell L.cells number → ⊥ }
         ensures why { RefusesPlace L.cells number self.old.desk result }
         ensures held { AreReplays L.limits self.old.desk self.old.history.log self.new.desk
@@ -96,19 +96,19 @@ impl<L: Hall> Locked<L> {
         placer.catch_up(&mut self.history);
         match self.desk.prepare() {
             Err(why) => self.place_refusal(why, number),
-            Ok(next) => PlaceRefusal::Occupied(Occupied::Next(next)),
+            Ok(next) => PlaceError::Occupied(Occupied::Next(next)),
         }
     }
 
     // why an item isn't placed under a number where the desk's `prepare` refuses
-    fn place_refusal(&self, why: DeskRefusal, _number: u64) -> PlaceRefusal
+    fn place_refusal(&self, why: DeskRefusal, _number: u64) -> PlaceError
         requires { number_to_place self.now.desk ≡ Err why }
         ensures { RefusesPlace L.cells _number self.now.desk result }
     {
         match why {
-            DeskRefusal::JournalFull => PlaceRefusal::JournalFull,
-            DeskRefusal::Closed => PlaceRefusal::Closed(self.closed()),
-            _ => PlaceRefusal::SequenceFull,
+            DeskRefusal::JournalFull => PlaceError::JournalFull,
+            DeskRefusal::Closed => PlaceError::Closed(self.closed()),
+            _ => PlaceError::SequenceFull,
         }
     }
 
@@ -153,7 +153,7 @@ impl<L: Hall> Locked<L> {
 }
 
 /// The item of an entry that isn't placed, and why.
-pub(crate) fn refused(why: PlaceRefusal, entry: Entry) -> RefusedItem
+pub(crate) fn refused(why: PlaceError, entry: Entry) -> RefusedItem
     ensures { result ≡ record { why = why; item = entry.item } }
 {
     RefusedItem {

@@ -1,4 +1,4 @@
-//! `Opened`: the parts of a new broker, before its hall has a name.
+//! `Opened`: the parts of a new broker, before it has a brand.
 
 ghost use Rattle.std.specs.Prelude.{◌≡◌, IfOk};
 
@@ -15,7 +15,7 @@ use std::sync::ledger::Blank;
 
 /// The parts of a new broker. Contracts see its limits, its tables, the cells of its sequence, the
 /// queue of its intake with its size, the ledger of its subscriptions' steps, and the name of its
-/// history. `Broker::start` makes the broker of it, in a hall that has these.
+/// history. `Broker::start` makes the broker of it, under a brand that has these.
 #[derive(Drop)]
 pub struct Opened {
     pub(crate) config: Config,
@@ -36,7 +36,7 @@ pub struct Opened {
 impl Model for Opened {
     ghost use Rattle.std.specs.Prelude.{◌≡◌, []};
     ghost use Rattle.std.specs.Arc.{arc_value};
-    ghost use Rattle.rb_broker.specs.Halls.{OpenedParts};
+    ghost use Rattle.rb_broker.specs.Brands.{OpenedParts};
     ghost use Rattle.rb_desk.specs.Picture.{empty_picture};
 
     ghost Value = { OpenedParts };

@@ -13,9 +13,9 @@ ghost use Rattle.rb_broker.specs.Refusing.{EndsWith, KeepsClosing, RefusesWithdr
 ghost use Rattle.rb_broker.specs.Refusing.{has_number, with_number};
 ghost use Rattle.rb_sequence.specs.Cells.{IsLastToken, LastToken};
 
+use crate::brand::BrokerBrand;
 use crate::broker::Broker;
-use crate::hall::Hall;
-use crate::refusal::{SendRefusal, WithdrawRefusal};
+use crate::refusal::{SendRefusal, WithdrawError};
 use crate::staged::StagedSet;
 use cs_group::laws::{admitted_agree, agreeing_never_clash};
 use cs_invert::withdrawal_agreeing;
@@ -30,7 +30,7 @@ use std::sync::{Arc, Wait};
 
 /// A publisher of a broker. It is of one thread at a time.
 #[derive(Drop)]
-pub struct Publisher<L: Hall> {
+pub struct Publisher<L: BrokerBrand> {
     pub(crate) schema: Arc<Schema>,
     pub(crate) stream: PieceParser,
     pub(crate) pass: PublisherPass,
@@ -40,7 +40,7 @@ pub struct Publisher<L: Hall> {
     pub(crate) of: PhantomData<L>,
 }
 
-impl<L: Hall> Model for Publisher<L> {
+impl<L: BrokerBrand> Model for Publisher<L> {
     ghost use Rattle.std.specs.Prelude.{◌≡◌, IfSome};
     ghost use Rattle.std.specs.Arc.{arc_value};
     ghost use Rattle.rb_broker.specs.Publishers.{PublisherView};
@@ -60,7 +60,7 @@ impl<L: Hall> Model for Publisher<L> {
     ghost invariant = { λ p. (p.pass.queue ≡ L.queue) × IfSome p.closing (IsLastToken L.cells) };
 }
 
-impl<L: Hall> Publisher<L> {
+impl<L: BrokerBrand> Publisher<L> {
     /// Its number, from 0.
     pub fn number(&self) -> u64
         ensures { result ≡ self.now.number }
@@ -214,7 +214,7 @@ impl<L: Hall> Publisher<L> {
         alloc: Global,
         sequence: &Sequence,
         number: u64,
-    ) -> Result<StagedSet<L>, WithdrawRefusal>
+    ) -> Result<StagedSet<L>, WithdrawError>
         requires { sequence.now ≡ L.cells }
         ensures set { IfOk result (λ set. (set.publisher ≡ self.old.number)
             × (set.origin ≡ Withdraws number)) }
@@ -226,19 +226,19 @@ impl<L: Hall> Publisher<L> {
             number) }
     {
         agreeing_never_clash();
-        let told = sequence.tell(number).ok_or(WithdrawRefusal::NotPlaced)?;
+        let told = sequence.tell(number).ok_or(WithdrawError::NotPlaced)?;
         let entry = sequence.get_told(&told);
         if entry.publisher() != self.pass.publisher() {
-            return Err(WithdrawRefusal::NotYours(told));
+            return Err(WithdrawError::NotYours(told));
         }
         if self.withdrawn.contains(&number) {
-            return Err(WithdrawRefusal::AlreadyWithdrawn(told));
+            return Err(WithdrawError::AlreadyWithdrawn(told));
         }
         let Ok(body) = withdrawal_agreeing(alloc, entry.body()) else {
-            return Err(WithdrawRefusal::Memory(told));
+            return Err(WithdrawError::Memory(told));
         };
         if self.withdrawn.insert(number).is_err() {
-            return Err(WithdrawRefusal::Memory(told));
+            return Err(WithdrawError::Memory(told));
         }
         Ok(StagedSet {
             publisher: self.pass.publisher(),

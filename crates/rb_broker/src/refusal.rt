@@ -1,6 +1,6 @@
 //! Why the broker's calls refuse, and what they hand back.
 
-use crate::hall::Hall;
+use crate::brand::BrokerBrand;
 use crate::staged::StagedSet;
 use cs_apply::Tables;
 use rb_desk::DeskError;
@@ -10,7 +10,7 @@ use thiserror::Error;
 
 /// Why `PublisherMaker::make` makes no publisher. The maker is as before.
 #[derive(Clone, Copy, Debug, PartialEq, Eq, Error)]
-pub enum AddRefusal {
+pub enum AddError {
     /// There are 64 publishers.
     #[error("there are 64 publishers")]
     TooMany,
@@ -21,7 +21,7 @@ pub enum AddRefusal {
 
 /// Why `Broker::place_next` places no item. The broker is as before.
 #[derive(Debug, Drop, Error)]
-pub enum PlaceRefusal {
+pub enum PlaceError {
     /// The desk's journal is full.
     #[error("the journal is full")]
     JournalFull,
@@ -52,14 +52,14 @@ pub enum Occupied {
 #[derive(Debug, Drop)]
 pub struct RefusedItem {
     /// Why it isn't placed.
-    pub why: PlaceRefusal,
+    pub why: PlaceError,
     /// The item, as it was.
     pub item: Item,
 }
 
 /// Why `Publisher::send` sends nothing. The set comes back.
 #[derive(Drop)]
-pub enum SendRefusal<L: Hall> {
+pub enum SendRefusal<L: BrokerBrand> {
     /// The sequence is closed. The token shows its last number. The publisher keeps a copy, and
     /// refuses each later set so.
     Closed(ToldLast, StagedSet<L>),
@@ -69,7 +69,7 @@ pub enum SendRefusal<L: Hall> {
 
 /// Why `Publisher::withdraw` stages nothing. The publisher is as before. A token shows the entry.
 #[derive(Debug, Drop, Error)]
-pub enum WithdrawRefusal {
+pub enum WithdrawError {
     /// No entry has this number.
     #[error("there is no such entry")]
     NotPlaced,
@@ -104,7 +104,7 @@ pub struct RefusedSubscription {
     pub tables: Tables,
 }
 
-/// Why `Broker::resume` resumes nothing. The broker is as before.
+/// Why `Broker::resume` refuses to resume a subscription. The broker is as before.
 #[derive(Clone, Copy, Debug, PartialEq, Eq, Error)]
 pub enum ResumeError {
     /// The tables and the cursor are neither those from before the delivery that was being accepted
@@ -118,7 +118,7 @@ pub enum ResumeError {
 
 /// What `Broker::resume` did not resume, and why.
 #[derive(Drop)]
-pub struct RefusedResume<L: Hall> {
+pub struct RefusedResume<L: BrokerBrand> {
     /// Why it isn't resumed.
     pub why: ResumeError,
     /// The subscription that fell, as it was.

@@ -5,7 +5,7 @@ ghost use Rattle.std.specs.Option.{option_copied};
 ghost use Rattle.cs_model.specs.Changeset.{AgreeOnShapes};
 ghost use Rattle.rb_broker.specs.Publishers.{IsStaged};
 
-use crate::hall::Hall;
+use crate::brand::BrokerBrand;
 use cs_model::{Changeset, Origin};
 use rb_sequence::Told;
 use std::marker::{Model, PhantomData};
@@ -13,7 +13,7 @@ use std::marker::{Model, PhantomData};
 /// A changeset that a publisher staged: what it was fed, or the withdrawal of an entry. Only the
 /// publisher that staged it can send it.
 #[derive(Drop)]
-pub struct StagedSet<L: Hall> {
+pub struct StagedSet<L: BrokerBrand> {
     pub(crate) publisher: u64,
     pub(crate) origin: Origin,
     pub(crate) body: Changeset,
@@ -22,7 +22,7 @@ pub struct StagedSet<L: Hall> {
     pub(crate) of: PhantomData<L>,
 }
 
-impl<L: Hall> Model for StagedSet<L> {
+impl<L: BrokerBrand> Model for StagedSet<L> {
     ghost use Rattle.cs_model.specs.Changeset.{AgreeOnShapes};
     ghost use Rattle.rb_broker.specs.Publishers.{StagedView, WithdrawsShown};
 
@@ -39,7 +39,7 @@ impl<L: Hall> Model for StagedSet<L> {
         × AgreeOnShapes s.body };
 }
 
-impl<L: Hall> StagedSet<L> {
+impl<L: BrokerBrand> StagedSet<L> {
     /// The number of the publisher that staged it.
     pub fn publisher(&self) -> u64
         ensures { result ≡ self.now.publisher }

@@ -1,11 +1,11 @@
-//! What the programs that run cases from files share: the files of a case, the words of its
-//! options, and the first line that differs.
+//! What the programs that run cases from files share: the packs that have the cases, the words of
+//! a case's options, and the first line that differs.
 #![tactic(auto)]
 
 mod comparing;
-mod files;
+mod pack;
 mod words;
 
 pub use comparing::{difference, lines};
-pub use files::{names, read_if_there};
+pub use pack::Pack;
 pub use words::Options;

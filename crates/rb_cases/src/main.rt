@@ -1,19 +1,21 @@
-//! Runs each case of a folder: a script, its options, and its expected answers, or lines and the
-//! rows that they show. A case is files and no code. Prints each answer that differs, with its
-//! line, and how many answers it compared.
+//! Runs each case of a folder's packs: a script, its options, and its expected answers, or lines
+//! and the rows that they show. A case is texts and no code. Prints each answer that differs, with
+//! its line, and how many answers it compared.
 //! Theorem: how a script is cut into pieces, and how the answers to them are joined.
 #![tactic(auto)]
 
 mod case;
 mod joining;
 mod listing;
+mod packs;
 mod pieces;
 
 use case::Case;
 use listing::Listing;
-use rb_case_files::names;
+use packs::CasePacks;
+use rb_case_files::Pack;
 use rb_show::RowForm;
-use std::alloc::Global;
+use std::alloc::{AllocError, Global};
 use std::process::ExitCode;
 use std::{fmt, io};
 
@@ -43,11 +45,16 @@ impl fmt::Display for Way {
 
 impl Way {
     // Runs the case of this name. Returns how many lines were compared, or how the first differs.
-    fn run(self, rt: &HostRuntime, alloc: Global, name: &str) -> io::Result<Result<usize, String>> {
-        Ok(match self {
-            Way::Pieces(most) => Case::read(rt, alloc, name)?.run(alloc, most)?,
-            Way::Rows(form) => Listing::read(rt, alloc, name)?.run(alloc, form)?,
-        })
+    fn run(
+        self,
+        alloc: Global,
+        packs: &CasePacks,
+        name: &str,
+    ) -> Result<Result<usize, String>, AllocError> {
+        match self {
+            Way::Pieces(most) => Case::of(packs, name).run(alloc, most),
+            Way::Rows(form) => Listing::of(packs, name).run(alloc, form),
+        }
     }
 }
 
@@ -60,12 +67,13 @@ struct Tally {
 }
 
 fn main(rt: HostRuntime) -> io::Result<ExitCode> {
-    let scripts = run_all(&rt, rt.alloc(), ".script", &SCRIPTS)?;
+    let packs = CasePacks::open(&rt, rt.alloc())?;
+    let scripts = run_all(&rt, rt.alloc(), &packs, &packs.script, &SCRIPTS)?;
     println!(rt;
         "{} cases, {} answers compared",
         scripts.cases, scripts.lines
     )?;
-    let listings = run_all(&rt, rt.alloc(), ".shows", &LISTINGS)?;
+    let listings = run_all(&rt, rt.alloc(), &packs, &packs.shows, &LISTINGS)?;
     println!(rt;
         "{} listings, {} lines compared",
         listings.cases, listings.lines
@@ -79,14 +87,20 @@ fn main(rt: HostRuntime) -> io::Result<ExitCode> {
     })
 }
 
-// Runs each case whose file has this end, in each of these ways. Prints each difference.
-fn run_all(rt: &HostRuntime, alloc: Global, end: &str, ways: &[Way]) -> io::Result<Tally> {
-    let names = names(rt, alloc, end)?;
+// Runs each case that `inputs` has, in each of these ways. Prints each difference.
+fn run_all(
+    rt: &HostRuntime,
+    alloc: Global,
+    packs: &CasePacks,
+    inputs: &Pack,
+    ways: &[Way],
+) -> io::Result<Tally> {
+    let names = inputs.names(alloc)?;
     let mut lines = 0_usize;
     let mut failed = 0_usize;
     for name in &names {
         for way in ways {
-            match way.run(rt, alloc, name.as_str())? {
+            match way.run(alloc, packs, name)? {
                 Ok(count) => lines = lines.saturating_add(count),
                 Err(difference) => {
                     println!(rt; "{name}, {way}: {difference}")?;

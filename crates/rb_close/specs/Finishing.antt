@@ -9,8 +9,8 @@ use Rattle.rb_sequence.specs.Item.{Item}
 use Rattle.rb_intake.specs.Passes.{LastKnows, SequencerKnows}
 use Rattle.rb_broker.specs.Publishers.{PublisherView}
 use Rattle.rb_sequencer.specs.Turns.{SequencerState, in_hand, items_placed}
-use Rattle.rb_close.specs.declared.refusal.FinishRefusal.{FinishRefusal}
-use Rattle.rb_close.specs.declared.refusal.FinishRefusal.TheVariants as refusal
+use Rattle.rb_close.specs.declared.refusal.FinishError.{FinishError}
+use Rattle.rb_close.specs.declared.refusal.FinishError.TheVariants as refusal
 
 -- what each publisher sent is what was placed of it, then what is left of it
 abbrev pub AreAllThere : List PublisherView → List Item → List Item → Type 0
@@ -64,7 +64,7 @@ closing_shown closing = option_map (λ token. token.last) closing
 -- Why a broker isn't finished of which so many publishers were made and so many items placed, with
 -- what the closing cell shows. It isn't closed where that isn't the number of items placed. Else a
 -- publisher is missing where one isn't given. Else memory runs out.
-abbrev pub RefusesFinish : ℕ → ℕ → Option ℕ → List PublisherView → FinishRefusal → Type 0
+abbrev pub RefusesFinish : ℕ → ℕ → Option ℕ → List PublisherView → FinishError → Type 0
 RefusesFinish made placed shown publishers refusal.NotClosed = shown ≡ Some placed → ⊥
 RefusesFinish made placed shown publishers refusal.Missing = (shown ≡ Some placed)
     × (n : ℕ) × (n < made) × (IsPresent n publishers → ⊥)

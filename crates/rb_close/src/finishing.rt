@@ -8,8 +8,8 @@ ghost use Rattle.rb_close.specs.Finishing.{PullsInOrder, RefusesFinish, all_sent
 ghost use Rattle.rb_sequence.specs.Cells.{IsLastToken};
 ghost use Rattle.rb_sequencer.specs.Turns.{in_hand};
 
-use crate::refusal::{FinishRefusal, Unfinished};
-use rb_broker::{Broker, Hall, Publisher, PublisherMaker};
+use crate::refusal::{FinishError, RefusedFinish};
+use rb_broker::{Broker, BrokerBrand, Publisher, PublisherMaker};
 use rb_intake::{Intake, LastPass, SequencerPass};
 use rb_sequence::{Item, Sequence, ToldLast};
 use rb_sequencer::Sequencer;
@@ -40,7 +40,7 @@ pub struct Finished {
 ///
 /// Refuses, in this order, `NotClosed` if `closing` isn't the number of items placed, `Missing` if
 /// a publisher isn't given, and `Memory`. All that was given comes back.
-pub fn finish<L: Hall, R: Wait>(
+pub fn finish<L: BrokerBrand, R: Wait>(
     rt: &R,
     alloc: Global,
     closing: Option<&ToldLast>,
@@ -48,7 +48,7 @@ pub fn finish<L: Hall, R: Wait>(
     sequencer: Sequencer<L>,
     maker: PublisherMaker<L>,
     broker: Broker<L>,
-) -> Result<Finished, Unfinished<L>>
+) -> Result<Finished, RefusedFinish<L>>
     requires { IfSome (option_copied closing) (IsLastToken L.cells) }
     ensures ok { IfOk result (λ f.
         Finishes L.cells publishers.items sequencer f.placed f.left.items f.closing) }
@@ -64,7 +64,7 @@ pub fn finish<L: Hall, R: Wait>(
 {
     match prepare(alloc, closing, &publishers, &sequencer, &maker) {
         Ok((left, closing)) => Ok(end(rt, publishers, sequencer, maker, broker, left, closing)),
-        Err(why) => Err(Unfinished {
+        Err(why) => Err(RefusedFinish {
             why,
             publishers,
             sequencer,
@@ -75,13 +75,13 @@ pub fn finish<L: Hall, R: Wait>(
 }
 
 // Whether the broker can be finished: room for what is left, and the token of the closing cell.
-fn prepare<L: Hall>(
+fn prepare<L: BrokerBrand>(
     alloc: Global,
     closing: Option<&ToldLast>,
     publishers: &[Publisher<L>],
     sequencer: &Sequencer<L>,
     maker: &PublisherMaker<L>,
-) -> Result<(Vec<Item>, ToldLast), FinishRefusal>
+) -> Result<(Vec<Item>, ToldLast), FinishError>
     ensures given { IfOk result (λ r. AreAllPresent maker.now publishers.now) }
     ensures empty { IfOk result (λ r. r.0.items ≡ []) }
     ensures hand { IfOk result (λ r. 1 ≤ vec_capacity r.0) }
@@ -94,13 +94,13 @@ fn prepare<L: Hall>(
 {
     let placed = sequencer.placed();
     let Some(closing) = closing_at(closing, placed) else {
-        return Err(FinishRefusal::NotClosed);
+        return Err(FinishError::NotClosed);
     };
     match missing(publishers, maker.made()) {
-        Some(_) => Err(FinishRefusal::Missing),
+        Some(_) => Err(FinishError::Missing),
         None => match room_for(alloc, publishers, placed) {
             Some(left) => Ok((left, closing)),
-            None => Err(FinishRefusal::Memory),
+            None => Err(FinishError::Memory),
         },
     }
 }
@@ -120,7 +120,7 @@ fn closing_at(closing: Option<&ToldLast>, placed: u64) -> Option<ToldLast>
 }
 
 // a number below `made` whose publisher isn't given
-fn missing<L: Hall>(publishers: &[Publisher<L>], made: u64) -> Option<u64>
+fn missing<L: BrokerBrand>(publishers: &[Publisher<L>], made: u64) -> Option<u64>
     ensures some { IfSome result (λ n. (n < made) × (IsPresent n publishers.now → ⊥)) }
     ensures none { IfNone result (AreAllPresent made publishers.now) }
 {
@@ -132,7 +132,7 @@ fn missing<L: Hall>(publishers: &[Publisher<L>], made: u64) -> Option<u64>
     None
 }
 
-fn is_given<L: Hall>(publishers: &[Publisher<L>], number: u64) -> bool
+fn is_given<L: BrokerBrand>(publishers: &[Publisher<L>], number: u64) -> bool
     ensures { Decides result (IsPresent number publishers.now) }
 {
     for publisher in publishers {
@@ -145,7 +145,11 @@ fn is_given<L: Hall>(publishers: &[Publisher<L>], number: u64) -> bool
 
 // Room for the item in hand and for what waits: what was sent, less what is placed. Returns `None`
 // if memory runs out.
-fn room_for<L: Hall>(alloc: Global, publishers: &[Publisher<L>], placed: u64) -> Option<Vec<Item>>
+fn room_for<L: BrokerBrand>(
+    alloc: Global,
+    publishers: &[Publisher<L>],
+    placed: u64,
+) -> Option<Vec<Item>>
     ensures empty { IfSome result (λ left. left.items ≡ []) }
     ensures hand { IfSome result (λ left. 1 ≤ vec_capacity left) }
     ensures room { IfSome result (λ left. all_sent publishers.now ≤ placed + vec_capacity left) }
@@ -156,7 +160,7 @@ fn room_for<L: Hall>(alloc: Global, publishers: &[Publisher<L>], placed: u64) ->
 }
 
 // how many items were sent, if 64 bits hold it
-fn sent_by<L: Hall>(publishers: &[Publisher<L>]) -> Option<u64>
+fn sent_by<L: BrokerBrand>(publishers: &[Publisher<L>]) -> Option<u64>
     ensures { IfSome result (λ n. n ≡ all_sent publishers.now) }
 {
     let mut sent: u64 = 0;
@@ -167,7 +171,7 @@ fn sent_by<L: Hall>(publishers: &[Publisher<L>]) -> Option<u64>
 }
 
 // Takes all apart. Nothing is refused any more.
-fn end<L: Hall, R: Wait>(
+fn end<L: BrokerBrand, R: Wait>(
     rt: &R,
     publishers: Vec<Publisher<L>>,
     sequencer: Sequencer<L>,
@@ -218,7 +222,11 @@ fn with_hand(left: Vec<Item>, hand: Option<Item>) -> Vec<Item>
 }
 
 // joins the passes of all publishers
-fn join_all<L: Hall>(intake: &Intake, pass: &mut SequencerPass, publishers: Vec<Publisher<L>>)
+fn join_all<L: BrokerBrand>(
+    intake: &Intake,
+    pass: &mut SequencerPass,
+    publishers: Vec<Publisher<L>>,
+)
     requires queue { intake.now.queue ≡ L.queue }
     requires pass { pass.old.queue ≡ L.queue }
     ensures { JoinsPasses publishers.items pass.old pass.new }

@@ -10,4 +10,4 @@ mod refusal;
 
 pub use finishing::{Finished, finish};
 pub use meeting::{meet, meet_sequencer};
-pub use refusal::{FinishRefusal, Unfinished};
+pub use refusal::{FinishError, RefusedFinish};

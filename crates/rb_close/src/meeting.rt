@@ -6,7 +6,7 @@ ghost use Rattle.rb_sequence.specs.Cells.{IsTokenOf};
 ghost use Rattle.rb_sequencer.specs.Turns.{token_of};
 ghost use Rattle.rb_subscriber.specs.Subscription.{cursor_of};
 
-use rb_broker::Hall;
+use rb_broker::BrokerBrand;
 use rb_sequence::laws::one_number_is_one_cell;
 use rb_sequencer::Sequencer;
 use rb_subscriber::{StepLedger, Subscription};
@@ -32,7 +32,7 @@ pub fn meet<L: StepLedger>(one: &Subscription<L>, other: &Subscription<L>) -> (u
 /// those after the first number, its start, up to the second one. The two are equal if there are
 /// none. For each of them both show the same entry. If the second number is the cursor, what the
 /// subscription accepted is that part of what the sequencer placed.
-pub fn meet_sequencer<L: Hall>(
+pub fn meet_sequencer<L: BrokerBrand>(
     sequencer: &Sequencer<L>,
     subscription: &Subscription<L>,
 ) -> (u64, u64)
@@ -68,7 +68,11 @@ fn agree<L: StepLedger>(one: &Subscription<L>, other: &Subscription<L>, number: 
 }
 
 // Both show the same entry for this number, which both have. Does nothing else.
-fn agree_placed<L: Hall>(sequencer: &Sequencer<L>, subscription: &Subscription<L>, number: u64)
+fn agree_placed<L: BrokerBrand>(
+    sequencer: &Sequencer<L>,
+    subscription: &Subscription<L>,
+    number: u64,
+)
     requires accepted { (subscription.now.start < number)
         × (number ≤ cursor_of subscription.now) }
     requires placed { number ≤ length sequencer.now.placed }

@@ -1,12 +1,12 @@
 //! Why `finish` finishes nothing, and what it hands back then.
 
-use rb_broker::{Broker, Hall, Publisher, PublisherMaker};
+use rb_broker::{Broker, BrokerBrand, Publisher, PublisherMaker};
 use rb_sequencer::Sequencer;
 use thiserror::Error;
 
 /// Why `finish` finishes nothing.
 #[derive(Clone, Copy, Debug, PartialEq, Eq, Error)]
-pub enum FinishRefusal {
+pub enum FinishError {
     /// The sequence isn't closed after what the sequencer placed.
     #[error("the sequence isn't closed")]
     NotClosed,
@@ -20,9 +20,9 @@ pub enum FinishRefusal {
 
 /// A broker that isn't finished, and why. All that was given comes back as it was.
 #[derive(Drop)]
-pub struct Unfinished<L: Hall> {
+pub struct RefusedFinish<L: BrokerBrand> {
     /// Why it isn't finished.
-    pub why: FinishRefusal,
+    pub why: FinishError,
     /// Its publishers.
     pub publishers: Vec<Publisher<L>>,
     /// Its sequencer.

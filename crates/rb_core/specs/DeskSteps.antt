@@ -1,5 +1,5 @@
 -- The steps that a world's desk made. The world counts them and doesn't keep them: the events and
--- their answers tell which they were.
+-- their answers say which they were.
 use Rattle.std.specs.Prelude.{List, [], ◌∷◌, Option, Some, None, Ok, Err, slice_get}
 use Rattle.std.specs.Prelude.{if◌then◌else◌, ◌==◌}
 use Rattle.std.specs.List.{cons_option}

@@ -66,9 +66,10 @@ pub fn withdrawn_once()
         → slice_get new.withdrawn i ≡ Some n → (1 ≤ n) × (n ≤ length new.sequence) }
 {}
 
-/// After any moves from the start: where the changesets that a subscription accepted apply singly,
-/// without conflict, to the tables it began with, its tables are what that gives. The law asks that
-/// all placed bodies are changesets and that the rows it began with have a value for each column.
+/// After any moves from the start: if the changesets that a subscription accepted apply without
+/// conflict, one after another, to the tables that it began with, the result is its tables. The law
+/// requires that all placed bodies are changesets, and that the rows that the subscription began
+/// with have a value for each column.
 pub fn tables_apply_singly()
     ensures { (mids : List World) (new : World) (s : ℕ) (subscriber : Subscriber)
         → Leads world_begun mids new → slice_get new.subscribers s ≡ Some subscriber

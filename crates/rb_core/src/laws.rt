@@ -248,10 +248,10 @@ pub fn subscriptions_begin_as_asked()
         ≡ all_tables_asked schema events answers }
 {}
 
-/// At any time of any run, each subscription has an endpoint in the broker. Where the changesets
-/// that the subscription accepted apply singly, without conflict, to the tables that it began with,
-/// the endpoint's tables are what one thread gets that applies them so. It began with the tables
-/// that were asked for (`subscriptions_begin_as_asked`).
+/// At any time of any run, each subscription has an endpoint in the broker. If the changesets that
+/// the subscription accepted apply without conflict, one after another, to the tables that it began
+/// with, the result is the endpoint's tables. The subscription began with the tables that were
+/// asked for (`subscriptions_begin_as_asked`).
 pub fn tables_apply_singly()
     ensures { (limits : Limits) (schema : List Shape) (events : List Event)
         (answers : List Answer) (new : State) (s : ℕ) (subscriber : Subscriber)

@@ -45,7 +45,7 @@ pub enum PlacingError {
     #[error(transparent)]
     Refused(PlacingRefusal),
     /// Memory ran out. Nothing changes.
-    #[error("memory ran out")]
+    #[error("out of memory")]
     Memory,
 }
 

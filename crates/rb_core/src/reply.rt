@@ -76,7 +76,7 @@ pub enum BrokerRefusal {
     #[error("the sequence is closed")]
     Closed,
     /// `Send`: the intake is full.
-    #[error("as many changesets wait as may")]
+    #[error("the intake is full")]
     Full,
     /// `Withdraw`: no entry has this number.
     #[error("there is no such entry")]

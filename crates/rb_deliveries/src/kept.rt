@@ -117,7 +117,7 @@ impl Subs {
         self.subs.get(s as usize)
     }
 
-    /// The spans of each subscription rise. It does nothing: a caller has this fact by it.
+    /// Does nothing. Its contract is a law: the spans of each subscription rise.
     pub(crate) fn rise(&self)
         ensures { AllByRecursion (λ sub. AreRising sub.lane) self.now.subs }
     {

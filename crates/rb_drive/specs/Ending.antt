@@ -1,6 +1,6 @@
--- The conflict by which a subscriber ends, and what shows it.
-use Rattle.std.specs.Prelude.{◌≡◌, ℕ, suc, List, [], ◌∷◌, length, Result}
-use Rattle.std.specs.Prelude.{Err}
+-- How a delivery is settled; the conflict by which a subscriber ends, and what shows it.
+use Rattle.std.specs.Prelude.{◌≡◌, ℕ, suc, List, [], ◌∷◌, ◌++◌, length, Result, Ok, Err, ◌==◌}
+use Rattle.std.specs.Prelude.{if◌then◌else◌}
 use Rattle.std.specs.Coded.{Unit-prop, le_prop, Coded-set, coded_ℕ, coded_result}
 use Rattle.cs_apply.specs.contracts.conflict.Conflict as conflict_row
 use Rattle.cs_apply.specs.Single.{single}
@@ -8,15 +8,21 @@ use Rattle.cs_apply.specs.State.{TableState, state_code}
 use Rattle.cs_apply.specs.declared.conflict.Conflict.{Conflict}
 use Rattle.cs_group.specs.Group.{group_of}
 use Rattle.rb_desk.specs.declared.delivery.Delivery.{Delivery}
+use Rattle.rb_desk.specs.declared.step.Step.{Step}
+use Rattle.rb_desk.specs.declared.step.Step.TheVariants as step
+use Rattle.rb_history.specs.Kept.{count_under}
 use Rattle.rb_sequence.specs.Cells.{AreInCells, Cells, CellToken, IsTokenOf}
 use Rattle.rb_subscriber.specs.Accept.{joined_bodies}
+use Rattle.rb_subscriber.specs.Owner.{Owner, has_seen}
 use Rattle.rb_subscriber.specs.Shown.{entries_told, tokens_shown}
 use Rattle.rb_subscriber.specs.Subscription.{SubscriptionState, cursor_of}
 use Rattle.rb_subscriber.specs.declared.refusal.AcceptRefusal.TheVariants as refusal
 use Rattle.rb_subscriber.specs.declared.refusal.SubscriptionError.{SubscriptionError}
 use Rattle.rb_subscriber.specs.declared.refusal.SubscriptionError.TheVariants.{RefusedEntries}
+use Rattle.rb_subscriber.specs.declared.refusal.SubscriptionError.TheVariants.{Unseen}
 use Rattle.rb_subscriber.specs.declared.shown.Shown.{Shown}
 use Rattle.rb_drive.specs.declared.ending.Settling.{Settling}
+use Rattle.rb_drive.specs.declared.ending.Settling.TheVariants as settling
 use Rattle.rb_drive.specs.declared.ending.SubscriberEnd.{SubscriberEnd}
 use Rattle.rb_drive.specs.declared.ending.SubscriberEnd.TheVariants as way
 
@@ -40,13 +46,35 @@ ShowsOneConflict cells delivery result s = (conflict : Conflict) (shown : Shown)
     → result ≡ Err (RefusedEntries (refusal.Conflict conflict) shown)
     → delivery.first ≡ delivery.last → ShowsConflict cells s conflict (tokens_shown shown)
 
--- how a delivery is settled, or the subscriber ends: by a conflict only if one entry was refused so
-abbrev pub EndsByRefusal : Delivery → Result ℕ SubscriptionError → Result Settling SubscriberEnd
-    → Type 0
-EndsByRefusal delivery accepted (Err (way.Conflict conflict shown)) =
-    (accepted ≡ Err (RefusedEntries (refusal.Conflict conflict) shown))
-    × (delivery.first ≡ delivery.last)
-EndsByRefusal delivery accepted other = Unit {0}
+-- How a delivery is settled after this answer to its accept, or how the subscriber ends: by a
+-- conflict only if one entry was refused for it.
+abbrev pub settling_of : Delivery → Result ℕ SubscriptionError → Result Settling SubscriberEnd
+settling_of delivery (Ok cursor) = Ok settling.Ack
+settling_of delivery (Err (Unseen number shown)) = Ok settling.Nack
+settling_of delivery (Err (RefusedEntries (refusal.Conflict conflict) shown)) =
+    if delivery.first == delivery.last then Err (way.Conflict conflict shown)
+    else Ok settling.NackOpened
+settling_of delivery (Err other) = Err way.Stopped
+
+-- the step by which a delivery to this subscription is settled so
+abbrev pub settling_step : Settling → Delivery → SubscriptionState → Step
+settling_step settling.Ack delivery s =
+    step.Ack s.sub delivery.link delivery.number (cursor_of s)
+settling_step settling.Nack delivery s = step.Nack s.sub delivery.link delivery.number
+settling_step settling.NackOpened delivery s =
+    step.NackOpened s.sub delivery.link delivery.number
+
+-- since the owner looked, others made steps, and then it made this one alone
+abbrev pub HasStepped : Step → Owner → Owner → Type 0
+HasStepped step old new = (others : List (ℕ × Step)) × (count_under old.number others ≡ 0)
+    × (new ≡ has_seen old ((old.seen ++ others) ++ (old.number, step) ∷ []))
+
+-- a delivery is settled as the answer to its accept asks for, by one step of the subscription
+abbrev pub IsSettled : Delivery → Result ℕ SubscriptionError → SubscriptionState
+    → SubscriptionState → Type 0
+IsSettled delivery accepted old new = (how : Settling)
+    × (settling_of delivery accepted ≡ Ok how)
+    × HasStepped (settling_step how delivery old) old.owner new.owner
 
 -- ---- such facts have one proof at most, so a ghost field may say them
 

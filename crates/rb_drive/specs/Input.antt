@@ -9,8 +9,8 @@ use Rattle.cs_parse.specs.Reading.{answer_of}
 use Rattle.rb_script.specs.Lines.{header_of_answer, most_of_line}
 use Rattle.rb_script.specs.Script.{IsLine, ended_lines}
 use Rattle.rb_script.specs.Words.{bytes_of, number_in_word, words_of}
-use Rattle.rb_drive.specs.declared.fault.DriveFault.{DriveFault}
-use Rattle.rb_drive.specs.declared.fault.DriveFault.TheVariants as fault
+use Rattle.rb_drive.specs.declared.fault.DriveError.{DriveError}
+use Rattle.rb_drive.specs.declared.fault.DriveError.TheVariants as fault
 use Rattle.rb_drive.specs.declared.input.Given.{Given}
 use Rattle.rb_drive.specs.declared.input.Input.{Input}
 
@@ -105,7 +105,7 @@ pub record HasNoBadLine (bytes : List ℕ) : Type 0 where
   pub short : length line ≤ most_of_line
 
 -- How reading the input ends. The reader had r0 left and has r.
-abbrev pub InputEnds : Result Input DriveFault → Option (List ℕ) → Option (List ℕ) → Type 0
+abbrev pub InputEnds : Result Input DriveError → Option (List ℕ) → Option (List ℕ) → Type 0
 InputEnds (Ok input) r0 r = (bytes : List ℕ) × (lines : List (List ℕ)) × Consumes r0 r bytes
     × IsAtEnd r × AreBytesOf lines bytes × IsInput lines input.schema input.givens.items
 InputEnds (Err (fault.Line n)) r0 r = (bytes : List ℕ) × Consumes r0 r bytes

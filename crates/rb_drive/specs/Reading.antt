@@ -11,8 +11,8 @@ use Rattle.rb_script.specs.Script.{IsLine, ended_lines}
 use Rattle.rb_script.specs.Words.{bytes_of, number_in_word, words_of}
 use Rattle.rb_drive.specs.declared.entries.LineEntry.{LineEntry}
 use Rattle.rb_drive.specs.declared.entries.LineEntry.TheVariants.{Table, Changeset}
-use Rattle.rb_drive.specs.declared.fault.DriveFault.{DriveFault}
-use Rattle.rb_drive.specs.declared.fault.DriveFault.TheVariants.{Line, Memory}
+use Rattle.rb_drive.specs.declared.fault.DriveError.{DriveError}
+use Rattle.rb_drive.specs.declared.fault.DriveError.TheVariants.{Line, Memory}
 use Rattle.rb_drive.specs.declared.input.Given.{Given}
 use Rattle.rb_drive.specs.declared.input.Input.{Input}
 use Rattle.rb_drive.specs.declared.input.Reading.{Reading}
@@ -85,7 +85,7 @@ abbrev pub with_line : List Shape → List Given → List ℕ → Option Collect
 with_line tables givens line = with_entry tables givens (entry_spelled line)
 
 -- How adding a line to an input ends, if these are the tables and changesets after it.
-abbrev pub AddEnds : Option Collected → Input → Result (Unit {0}) DriveFault → Input → Type 0
+abbrev pub AddEnds : Option Collected → Input → Result (Unit {0}) DriveError → Input → Type 0
 AddEnds after old (Ok done) new = after ≡ Some (new.schema, new.givens.items)
 AddEnds after old (Err (Line n)) new = (after ≡ None)
     × (n ≡ length old.schema + length old.givens.items + 1)
@@ -104,20 +104,20 @@ pub record IsReadUpTo (bytes : List ℕ) (reading : Reading) : Type 0 where
   pub input : IsInput front reading.input.schema reading.input.givens.items
 
 -- How reading stops at these bytes.
-abbrev pub ReadingStopsAt : List ℕ → Type 0 → DriveFault → Type 0
+abbrev pub ReadingStopsAt : List ℕ → Type 0 → DriveError → Type 0
 ReadingStopsAt bytes at_end (Line n) = HasBadLine bytes at_end n
 ReadingStopsAt bytes at_end Memory = Unit {0}
 ReadingStopsAt bytes at_end other = ⊥
 
 -- How going on over these bytes ends, after any others.
-abbrev pub ReadingGoesOn : Reading → List ℕ → Result (Unit {0}) DriveFault → Reading → Type 0
+abbrev pub ReadingGoesOn : Reading → List ℕ → Result (Unit {0}) DriveError → Reading → Type 0
 ReadingGoesOn old bytes (Ok done) new = (before : List ℕ) → IsReadUpTo before old
     → IsReadUpTo (before ++ bytes) new
 ReadingGoesOn old bytes (Err fault) new = (before : List ℕ) → IsReadUpTo before old
     → ReadingStopsAt (before ++ bytes) ⊥ fault
 
 -- How the input ends, after any bytes.
-abbrev pub EndsAfter : Reading → Result Input DriveFault → Type 0
+abbrev pub EndsAfter : Reading → Result Input DriveError → Type 0
 EndsAfter reading (Ok input) = (bytes : List ℕ) → IsReadUpTo bytes reading
     → ((lines : List (List ℕ)) × AreBytesOf lines bytes
     × IsInput lines input.schema input.givens.items)

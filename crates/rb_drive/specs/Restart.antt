@@ -14,7 +14,7 @@ use Rattle.rb_subscriber.specs.Subscription.{SubscriptionState, batches_told}
 -- the entries of this delivery, or nothing more. They are the entries after its start, one after
 -- another, as the cells show them. The rows are what the groups of its accepted deliveries leave,
 -- and of this one if it is there. Where their changesets apply one after another without conflict
--- to the tables that it began with, the rows are what that gives.
+-- to the tables that it began with, the rows are the result of that.
 pub record HoldsRun (cells : Cells) (s : SubscriptionState) (delivery : Delivery) (db : Trees)
     : Type 0 where
   pub run : List CellToken

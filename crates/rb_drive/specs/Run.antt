@@ -7,8 +7,8 @@ use Rattle.rb_script.specs.Streams.{AppendsFront}
 use Rattle.rb_sequence.specs.Cells.{Cells}
 use Rattle.rb_drive.specs.declared.ending.SubscriberEnd.{SubscriberEnd}
 use Rattle.rb_drive.specs.declared.ending.SubscriberEnd.TheVariants.{Conflict}
-use Rattle.rb_drive.specs.declared.fault.DriveFault.{DriveFault}
-use Rattle.rb_drive.specs.declared.fault.DriveFault.TheVariants as fault
+use Rattle.rb_drive.specs.declared.fault.DriveError.{DriveError}
+use Rattle.rb_drive.specs.declared.fault.DriveError.TheVariants as fault
 use Rattle.rb_drive.specs.declared.input.Given.{Given}
 use Rattle.rb_drive.specs.Input.{AreBytesOf, HasBadLine, HasNoBadLine, IsInput}
 use Rattle.rb_drive.specs.Outcome.{DriveOutcome, IsDriven}
@@ -30,7 +30,7 @@ abbrev pub endings_of : DriveOutcome → List SubscriberEnd
 endings_of outcome = map (λ one. one.ending) outcome.subscribers
 
 -- a fault of the threads: they were stopped, the durable store failed, or memory ran out
-abbrev pub IsOfThreads : DriveFault → Type 0
+abbrev pub IsOfThreads : DriveError → Type 0
 IsOfThreads fault.Stopped = Unit {0}
 IsOfThreads fault.Store = Unit {0}
 IsOfThreads fault.Memory = Unit {0}
@@ -53,7 +53,7 @@ ComesTo limits subscribers tables givens outcome = (cells : Cells) × (lines : L
 -- before it reads anything where a broker never has so many subscribers. Its status is that of an
 -- outcome, and the report of that outcome is written, or a prefix of it where the writer fails. No
 -- other error writes anything.
-abbrev pub DriveEnds : Limits → ℕ → Result ℕ DriveFault → Option (List ℕ) → Option (List ℕ)
+abbrev pub DriveEnds : Limits → ℕ → Result ℕ DriveError → Option (List ℕ) → Option (List ℕ)
     → Option (List ℕ) → Option (List ℕ) → Type 0
 DriveEnds limits n (Ok status) r0 r w0 w =
     (tables : List Shape) × (givens : List Given) × (outcome : DriveOutcome)
@@ -69,7 +69,7 @@ DriveEnds limits n (Err (fault.Read why)) r0 r w0 w =
     ((bytes : List ℕ) × Consumes r0 r bytes × HasNoBadLine bytes) × Keeps w0 w
 DriveEnds limits n (Err fault.Memory) r0 r w0 w =
     ((bytes : List ℕ) × Consumes r0 r bytes) × Keeps w0 w
-DriveEnds limits n (Err fault.TooMany) r0 r w0 w = (1024 < n) × Keeps r0 r × Keeps w0 w
+DriveEnds limits n (Err fault.Subscribers) r0 r w0 w = (1024 < n) × Keeps r0 r × Keeps w0 w
 DriveEnds limits n (Err fault.Stopped) r0 r w0 w =
     ((tables : List Shape) × (givens : List Given) × ReadsInput tables givens r0 r) × Keeps w0 w
 DriveEnds limits n (Err fault.Store) r0 r w0 w =
@@ -77,7 +77,7 @@ DriveEnds limits n (Err fault.Store) r0 r w0 w =
 
 -- The same of a drive whose input was read: it was driven with the lines of each publisher, in a
 -- sequence with these cells.
-abbrev pub ReportEnds : Cells → ℕ → List Shape → List (List Given) → Result ℕ DriveFault
+abbrev pub ReportEnds : Cells → ℕ → List Shape → List (List Given) → Result ℕ DriveError
     → Option (List ℕ) → Option (List ℕ) → Type 0
 ReportEnds cells n tables lines (Ok status) w0 w = (outcome : DriveOutcome)
     × (length outcome.subscribers ≡ n) × IsDriven cells tables lines outcome

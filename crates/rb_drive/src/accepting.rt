@@ -1,15 +1,16 @@
 //! A subscriber's thread: takes, accepts and acknowledges until all is drained or an entry
 //! conflicts.
 
-ghost use Rattle.std.specs.Prelude.{◌≡◌};
-ghost use Rattle.rb_drive.specs.Ending.{EndsByRefusal, HasShownConflict, HasShownConflict-prop};
+ghost use Rattle.std.specs.Prelude.{◌≡◌, IfErr, OnOk};
+ghost use Rattle.rb_drive.specs.Ending.{HasShownConflict, HasShownConflict-prop, IsSettled};
+ghost use Rattle.rb_drive.specs.Ending.{ShowsOneConflict, settling_of};
 ghost use Rattle.rb_drive.specs.Owners.{beginning_of};
 
 use crate::ending::{Settling, SubscriberEnd};
 use crate::kept::KeptSubscription;
 use crate::signs::Signs;
 use par_apply::Open;
-use rb_broker::{Broker, Hall, TakeError};
+use rb_broker::{Broker, BrokerBrand, TakeError};
 use rb_desk::{Delivery, DeskError, DeskRefusal};
 use rb_subscriber::{AcceptRefusal, Subscription, SubscriptionError, Workers};
 use sqlite::Alter;
@@ -20,7 +21,7 @@ use std::thread::Threads;
 /// A subscriber: its subscription, and how it ended. If that was a conflict, it has what the cells
 /// showed of the entry that conflicts.
 #[derive(Drop)]
-pub struct Accepting<L: Hall, S: Alter> {
+pub struct Accepting<L: BrokerBrand, S: Alter> {
     pub subscription: KeptSubscription<L, S>,
     pub ending: SubscriberEnd,
     ghost shown: { HasShownConflict L.cells subscription
@@ -29,12 +30,12 @@ pub struct Accepting<L: Hall, S: Alter> {
 
 /// A subscriber that has ended, without the replica that it had.
 #[derive(Drop)]
-pub struct EndedSubscriber<L: Hall> {
+pub struct EndedSubscriber<L: BrokerBrand> {
     pub subscription: Subscription<L>,
     pub ending: SubscriberEnd,
 }
 
-impl<L: Hall, S: Alter> Accepting<L, S> {
+impl<L: BrokerBrand, S: Alter> Accepting<L, S> {
     /// One that has accepted nothing.
     pub fn new(subscription: KeptSubscription<L, S>) -> Accepting<L, S>
         ensures { result.subscription ≡ subscription }
@@ -69,7 +70,7 @@ impl<L: Hall, S: Alter> Accepting<L, S> {
     }
 }
 
-fn accept_all<L: Hall, S: Alter, R: Threads + Wait + Sync>(
+fn accept_all<L: BrokerBrand, S: Alter, R: Threads + Wait + Sync>(
     workers: &Workers<R, Open>,
     alloc: Global,
     broker: &Broker<L>,
@@ -92,13 +93,12 @@ fn accept_all<L: Hall, S: Alter, R: Threads + Wait + Sync>(
             Ok(delivery) => {
                 looks = 0;
                 let accepted = subscription.accept(workers, alloc, broker, &delivery);
-                match settling(accepted, &delivery, signs, place) {
-                    Ok(how) => {
-                        if !subscription.settle(rt, alloc, broker, &delivery, how) {
-                            return SubscriberEnd::Stopped;
-                        }
-                    }
-                    Err(ending) => return ending,
+                if let Ok(cursor) = &accepted {
+                    signs.progress.set_cursor(place, *cursor);
+                }
+                let settled = settle(rt, alloc, broker, signs, subscription, &delivery, accepted);
+                if let Err(ending) = settled {
+                    return ending;
                 }
             }
             Err(TakeError::Drained(_)) => return SubscriberEnd::Drained,
@@ -112,23 +112,44 @@ fn accept_all<L: Hall, S: Alter, R: Threads + Wait + Sync>(
     unreachable!()
 }
 
+// Settles a delivery as the answer to its accept asks for (*settling_of*). Returns how the
+// subscriber ends if the answer asks for that, or if the settling is refused.
+fn settle<L: BrokerBrand, S: Alter, R: Wait>(
+    rt: &R,
+    alloc: Global,
+    broker: &Broker<L>,
+    signs: &Signs,
+    subscription: &mut KeptSubscription<L, S>,
+    delivery: &Delivery,
+    accepted: Result<u64, SubscriptionError>,
+) -> Result<(), SubscriberEnd>
+    requires conflict { ShowsOneConflict L.cells delivery.now accepted subscription.old }
+    ensures begun { beginning_of subscription.new ≡ beginning_of subscription.old }
+    ensures shown { IfErr result (HasShownConflict L.cells subscription.new) }
+    ensures settled { OnOk result
+        (IsSettled delivery.now accepted subscription.old subscription.new) }
+{
+    let how = settling(accepted, delivery, signs)?;
+    if subscription.settle(rt, alloc, broker, delivery, how) {
+        Ok(())
+    } else {
+        Err(SubscriberEnd::Stopped)
+    }
+}
+
 // How a delivery is settled after this answer to its accept, or how the subscriber ends. One whose
 // entries this thread doesn't see yet goes back. One of several entries that conflicts goes back
 // opened: those before the conflict are accepted alone. A conflict of one entry ends the
-// subscriber. The cursor after an accepted one is counted at this place.
+// subscriber.
 fn settling(
     accepted: Result<u64, SubscriptionError>,
     delivery: &Delivery,
     signs: &Signs,
-    place: u64,
 ) -> Result<Settling, SubscriberEnd>
-    ensures { EndsByRefusal delivery.now accepted result }
+    ensures { result ≡ settling_of delivery.now accepted }
 {
     match accepted {
-        Ok(cursor) => {
-            signs.progress.set_cursor(place, cursor);
-            Ok(Settling::Ack)
-        }
+        Ok(_) => Ok(Settling::Ack),
         Err(SubscriptionError::Unseen { .. }) => Ok(Settling::Nack),
         Err(
             SubscriptionError::RefusedEntries {

@@ -16,7 +16,7 @@ use crate::owners::Owners;
 use crate::publishing::Publishing;
 use cs_apply::Tables;
 use cs_model::Schema;
-use rb_broker::{AddRefusal, Broker, Hall, PublisherMaker};
+use rb_broker::{AddError, Broker, BrokerBrand, PublisherMaker};
 use rb_sequencer::Sequencer;
 use rb_subscriber::Stake;
 use replica_store::Replica;
@@ -25,7 +25,7 @@ use std::alloc::{AllocError, Global};
 use std::sync::{Arc, Wait};
 
 /// All owners, before their threads begin.
-pub fn all_owners<L: Hall, S: Alter + Drop, R: Wait>(
+pub fn all_owners<L: BrokerBrand, S: Alter + Drop, R: Wait>(
     rt: &R,
     alloc: Global,
     broker: &Broker<L>,
@@ -70,7 +70,7 @@ pub fn all_owners<L: Hall, S: Alter + Drop, R: Wait>(
 }
 
 // a publisher for each of these lists of lines
-fn publishers<L: Hall>(
+fn publishers<L: BrokerBrand>(
     alloc: Global,
     broker: &Broker<L>,
     maker: &mut PublisherMaker<L>,
@@ -88,7 +88,7 @@ fn publishers<L: Hall>(
     Ok(all)
 }
 
-fn publisher<L: Hall>(
+fn publisher<L: BrokerBrand>(
     alloc: Global,
     broker: &Broker<L>,
     maker: &mut PublisherMaker<L>,
@@ -100,12 +100,12 @@ fn publisher<L: Hall>(
 {
     match maker.make(alloc, broker) {
         Ok(publisher) => Ok(Publishing::new(alloc, publisher, lines)),
-        Err(AddRefusal::Memory) | Err(AddRefusal::TooMany) => Err(AllocError),
+        Err(AddError::Memory) | Err(AddError::TooMany) => Err(AllocError),
     }
 }
 
 // so many subscribers, the first of them with the replica
-fn all_subscribers<L: Hall, S: Alter + Drop, R: Wait>(
+fn all_subscribers<L: BrokerBrand, S: Alter + Drop, R: Wait>(
     rt: &R,
     alloc: Global,
     broker: &Broker<L>,
@@ -127,7 +127,7 @@ fn all_subscribers<L: Hall, S: Alter + Drop, R: Wait>(
 }
 
 // a subscriber with empty tables, after number 0
-fn subscriber<L: Hall, S: Alter + Drop, R: Wait>(
+fn subscriber<L: BrokerBrand, S: Alter + Drop, R: Wait>(
     rt: &R,
     alloc: Global,
     broker: &Broker<L>,

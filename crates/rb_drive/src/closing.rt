@@ -7,8 +7,8 @@ ghost use Rattle.rb_drive.specs.Owners.{beginning_of};
 ghost use Rattle.rb_drive.specs.Run.{IsOfThreads};
 
 use crate::accepting::{Accepting, EndedSubscriber};
-use crate::fault::DriveFault;
-use rb_broker::Hall;
+use crate::fault::DriveError;
+use rb_broker::BrokerBrand;
 use replica_store::Replica;
 use sqlite::{Alter, FileStore, MemStore};
 use sqlite_disk::Disk;
@@ -42,10 +42,10 @@ impl<D: Disk + Drop> Closable for FileStore<D> {
 }
 
 /// The subscribers, whose replicas are closed.
-pub fn all_closed<L: Hall, S: Closable + Drop>(
+pub fn all_closed<L: BrokerBrand, S: Closable + Drop>(
     alloc: Global,
     accepting: Vec<Accepting<L, S>>,
-) -> Result<Vec<EndedSubscriber<L>>, DriveFault>
+) -> Result<Vec<EndedSubscriber<L>>, DriveError>
     ensures begun { IfOk result (λ all. map (λ one. beginning_of one.subscription) all.items
         ≡ map (λ one. beginning_of one.subscription) accepting.items) }
     ensures shown { IfOk result (λ all. AllByRecursion
@@ -59,9 +59,9 @@ pub fn all_closed<L: Hall, S: Closable + Drop>(
     Ok(all)
 }
 
-fn closed<L: Hall, S: Closable + Drop>(
+fn closed<L: BrokerBrand, S: Closable + Drop>(
     one: Accepting<L, S>,
-) -> Result<EndedSubscriber<L>, DriveFault>
+) -> Result<EndedSubscriber<L>, DriveError>
     ensures begun { IfOk result (λ ended. beginning_of ended.subscription
         ≡ beginning_of one.subscription) }
     ensures shown { IfOk result (λ ended.
@@ -82,13 +82,13 @@ fn closed<L: Hall, S: Closable + Drop>(
     })
 }
 
-fn close<S: Closable + Drop>(replica: Replica<S>) -> Result<(), DriveFault>
+fn close<S: Closable + Drop>(replica: Replica<S>) -> Result<(), DriveError>
     ensures { IfErr result IsOfThreads }
 {
     let mut store = replica.into_connection().into_store();
     match store.copy_log() {
         Ok(()) => Ok(()),
-        Err(StoreError::OutOfMemory) => Err(DriveFault::Memory),
-        Err(_) => Err(DriveFault::Store),
+        Err(StoreError::OutOfMemory) => Err(DriveError::Memory),
+        Err(_) => Err(DriveError::Store),
     }
 }

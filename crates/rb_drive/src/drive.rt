@@ -13,22 +13,22 @@ ghost use Rattle.rb_drive.specs.Outcome.{HasMetAndEnded, IsDriven, IsEndAt, repo
 ghost use Rattle.rb_drive.specs.Owners.{beginning_of, publisher_lines, numbered_lines};
 ghost use Rattle.rb_drive.specs.Published.{AreByNumber, unsent_lines};
 ghost use Rattle.rb_drive.specs.{Ending.{HasShownConflict}, Run.{IsOfThreads}};
-ghost use Rattle.rb_drive.specs.declared.fault.DriveFault.TheVariants.{Store};
+ghost use Rattle.rb_drive.specs.declared.fault.DriveError.TheVariants.{Store};
 
 use crate::accepting::EndedSubscriber;
 use crate::beginning::all_owners;
 use crate::closing::{Closable, all_closed};
 use crate::ending::SubscriberEnd;
-use crate::fault::DriveFault;
+use crate::fault::DriveError;
 use crate::input::Given;
 use crate::owners::{Owners, run_all};
 use crate::progress::Progress;
 use crate::publishing::{FaultyLine, Publishing};
 use crate::signs::Signs;
 use cs_model::Schema;
-use rb_broker::{Broker, Hall, Opened, Publisher, PublisherMaker, Started};
+use rb_broker::{Broker, BrokerBrand, Opened, Publisher, PublisherMaker, Started};
 use rb_close::laws::finished_keeps_headline;
-use rb_close::{FinishRefusal, Finished, finish, meet_sequencer};
+use rb_close::{FinishError, Finished, finish, meet_sequencer};
 use rb_sequencer::Sequencer;
 use replica_store::Replica;
 use sqlite::Alter;
@@ -38,7 +38,7 @@ use std::thread::Threads;
 
 /// What a drive came to, when all its threads have ended.
 #[derive(Drop)]
-pub struct Outcome<L: Hall> {
+pub struct Outcome<L: BrokerBrand> {
     /// How many changesets were placed, how many were sent and not placed, and how many lines were
     /// neither sent nor found faulty.
     pub placed: u64,
@@ -64,13 +64,13 @@ pub struct Plan<S: Alter> {
 ///
 /// Returns `Stopped` if the threads were stopped, `Store` if there is a replica and it failed, and
 /// `Memory` if memory ran out before or after.
-pub fn drive<L: Hall + Send + Sync, S: Closable + Drop + Send, R: Threads + Wait + Sync>(
+pub fn drive<L: BrokerBrand + Send + Sync, S: Closable + Drop + Send, R: Threads + Wait + Sync>(
     rt: &R,
     alloc: Global,
     opened: Opened,
     plan: Plan<S>,
     progress: &Progress,
-) -> Result<Outcome<L>, DriveFault>
+) -> Result<Outcome<L>, DriveError>
     requires sequence { (opened.limits ≡ L.limits) × (opened.cells ≡ L.cells) }
     requires queue { opened.queue ≡ L.queue }
     requires ledger { (opened.ledger ≡ L.name) × (L.parts ≡ 1024) × (L.all ≡ 1024) }
@@ -91,7 +91,7 @@ pub fn drive<L: Hall + Send + Sync, S: Closable + Drop + Send, R: Threads + Wait
 }
 
 // the fault of a drive with a replica, or of one without: that has no store that could fail
-fn fault_of(why: DriveFault, is_durable: bool) -> DriveFault
+fn fault_of(why: DriveError, is_durable: bool) -> DriveError
     requires { IsOfThreads why }
     ensures threads { IsOfThreads result }
     ensures stored { result ≡ Store → IsTrue is_durable }
@@ -101,19 +101,19 @@ fn fault_of(why: DriveFault, is_durable: bool) -> DriveFault
         return why;
     }
     match why {
-        DriveFault::Store => DriveFault::Stopped,
+        DriveError::Store => DriveError::Stopped,
         other => other,
     }
 }
 
 // `drive`, with the fault that the threads report
-fn drive_owners<L: Hall + Send + Sync, S: Closable + Drop + Send, R: Threads + Wait + Sync>(
+fn drive_owners<L: BrokerBrand + Send + Sync, S: Closable + Drop + Send, R: Threads + Wait + Sync>(
     rt: &R,
     alloc: Global,
     opened: Opened,
     plan: Plan<S>,
     progress: &Progress,
-) -> Result<Outcome<L>, DriveFault>
+) -> Result<Outcome<L>, DriveError>
     requires sequence { (opened.limits ≡ L.limits) × (opened.cells ≡ L.cells) }
     requires queue { opened.queue ≡ L.queue }
     requires ledger { (opened.ledger ≡ L.name) × (L.parts ≡ 1024) × (L.all ≡ 1024) }
@@ -136,7 +136,7 @@ fn drive_owners<L: Hall + Send + Sync, S: Closable + Drop + Send, R: Threads + W
     let sequencer = Sequencer::new(alloc, sequencer, placer);
     let signs = Signs::new(plan.lines.len() as u64, progress);
     let Ok(owners) = all_owners(rt, alloc, &broker, &mut maker, sequencer, keeper, plan) else {
-        return Err(DriveFault::Memory);
+        return Err(DriveError::Memory);
     };
     match run_all(rt, alloc, &broker, &signs, owners) {
         Some(back) => end(rt, alloc, broker, maker, back),
@@ -145,24 +145,24 @@ fn drive_owners<L: Hall + Send + Sync, S: Closable + Drop + Send, R: Threads + W
 }
 
 // why the threads were stopped
-fn why_stopped(signs: &Signs) -> DriveFault
+fn why_stopped(signs: &Signs) -> DriveError
     ensures { IsOfThreads result }
 {
     if signs.has_store_failed() {
-        DriveFault::Store
+        DriveError::Store
     } else {
-        DriveFault::Stopped
+        DriveError::Stopped
     }
 }
 
 // closes the replica and finishes the broker, when all owners are back
-fn end<L: Hall, S: Closable + Drop, R: Wait>(
+fn end<L: BrokerBrand, S: Closable + Drop, R: Wait>(
     rt: &R,
     alloc: Global,
     broker: Broker<L>,
     maker: PublisherMaker<L>,
     back: Owners<L, S>,
-) -> Result<Outcome<L>, DriveFault>
+) -> Result<Outcome<L>, DriveError>
     ensures ok { IfOk result (λ o. (schema : List Shape) (lines : List (List Line)) (count : ℕ)
         → map (λ one. publisher_lines one.publisher one.lines.items) back.publishing.items
         ≡ numbered_lines 0 schema lines
@@ -180,7 +180,7 @@ fn end<L: Hall, S: Closable + Drop, R: Wait>(
     } = back;
     let accepting = all_closed(alloc, accepting)?;
     if !all_ended(&sequencer, &accepting) {
-        return Err(DriveFault::Stopped);
+        return Err(DriveError::Stopped);
     }
     let (publishers, unsent, faulty) = taken_apart(alloc, publishing)?;
     // for what their clauses say
@@ -208,18 +208,18 @@ fn end<L: Hall, S: Closable + Drop, R: Wait>(
 }
 
 // why the broker isn't finished
-fn why_unfinished(why: FinishRefusal) -> DriveFault
+fn why_unfinished(why: FinishError) -> DriveError
     ensures { IsOfThreads result }
 {
     match why {
-        FinishRefusal::Memory => DriveFault::Memory,
-        FinishRefusal::NotClosed | FinishRefusal::Missing => DriveFault::Stopped,
+        FinishError::Memory => DriveError::Memory,
+        FinishError::NotClosed | FinishError::Missing => DriveError::Stopped,
     }
 }
 
 // whether each subscriber has met the sequencer up to its cursor, and all that are drained have
 // accepted everything
-fn all_ended<L: Hall>(sequencer: &Sequencer<L>, accepting: &[EndedSubscriber<L>]) -> bool
+fn all_ended<L: BrokerBrand>(sequencer: &Sequencer<L>, accepting: &[EndedSubscriber<L>]) -> bool
     requires { AllByRecursion
         (λ one. HasShownConflict L.cells one.subscription one.ending) accepting.now }
     ensures { IsTrue result → AllByRecursion
@@ -233,7 +233,7 @@ fn all_ended<L: Hall>(sequencer: &Sequencer<L>, accepting: &[EndedSubscriber<L>]
     true
 }
 
-fn has_ended<L: Hall>(sequencer: &Sequencer<L>, one: &EndedSubscriber<L>) -> bool
+fn has_ended<L: BrokerBrand>(sequencer: &Sequencer<L>, one: &EndedSubscriber<L>) -> bool
     requires { HasShownConflict L.cells one.now.subscription one.now.ending }
     ensures { IsTrue result
         → HasMetAndEnded L.cells sequencer.now one.now.subscription one.now.ending }
@@ -247,7 +247,7 @@ fn has_ended<L: Hall>(sequencer: &Sequencer<L>, one: &EndedSubscriber<L>) -> boo
 }
 
 // whether a subscriber may have ended so, where so many entries were placed
-fn is_at_end<L: Hall>(one: &EndedSubscriber<L>, placed: u64) -> bool
+fn is_at_end<L: BrokerBrand>(one: &EndedSubscriber<L>, placed: u64) -> bool
     requires { HasShownConflict L.cells one.now.subscription one.now.ending }
     ensures { IsTrue result → IsEndAt L.cells placed one.now.subscription one.now.ending }
 {
@@ -259,10 +259,10 @@ fn is_at_end<L: Hall>(one: &EndedSubscriber<L>, placed: u64) -> bool
 }
 
 // the publishers, how many of their lines were neither sent nor found faulty, and the faulty ones
-fn taken_apart<L: Hall>(
+fn taken_apart<L: BrokerBrand>(
     alloc: Global,
     publishing: Vec<Publishing<L>>,
-) -> Result<(Vec<Publisher<L>>, u64, Vec<FaultyLine>), DriveFault>
+) -> Result<(Vec<Publisher<L>>, u64, Vec<FaultyLine>), DriveError>
     ensures publishers { IfOk result (λ r. r.0.items
         ≡ map (λ one. one.publisher) publishing.items) }
     ensures unsent { IfOk result (λ r. r.1 ≡ unsent_lines
@@ -285,7 +285,7 @@ fn taken_apart<L: Hall>(
         publishers.push(publisher)?;
         // 2^64 lines are in no memory
         let rest = lines.len().saturating_sub(done) as u64;
-        unsent = unsent.checked_add(rest).ok_or(DriveFault::Stopped)?;
+        unsent = unsent.checked_add(rest).ok_or(DriveError::Stopped)?;
         faulty.extend_from_slice(&some)?;
     }
     faulty.sort_unstable_by_key(|one| one.line);

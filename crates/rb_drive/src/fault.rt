@@ -1,7 +1,7 @@
 //! Why a drive ends without a report.
 
 ghost use Rattle.std.specs.Prelude.{◌≡◌};
-ghost use Rattle.rb_drive.specs.declared.fault.DriveFault.TheVariants.{Memory};
+ghost use Rattle.rb_drive.specs.declared.fault.DriveError.TheVariants.{Memory};
 
 use std::alloc::{AllocError, AllocFailed};
 use std::io;
@@ -10,10 +10,10 @@ use thiserror::Error;
 /// Why a drive wrote no whole report, with the system's reason if there is one. After all but
 /// `Write` nothing is written; after `Write` a prefix of the report may be.
 #[derive(Debug, Drop, Error)]
-pub enum DriveFault {
+pub enum DriveError {
     /// More subscribers were asked for than a broker has. Nothing was read.
     #[error("too many subscribers")]
-    TooMany,
+    Subscribers,
     /// The reader failed. No thread was started.
     #[error("read fault")]
     Read(io::Error),
@@ -35,18 +35,18 @@ pub enum DriveFault {
     Memory,
 }
 
-impl From<AllocError> for DriveFault {
+impl From<AllocError> for DriveError {
     ghost from_gives = { λ _ e. e ≡ Memory };
 
-    fn from(_e: AllocError) -> DriveFault {
-        DriveFault::Memory
+    fn from(_e: AllocError) -> DriveError {
+        DriveError::Memory
     }
 }
 
-impl<T: Drop> From<AllocFailed<T>> for DriveFault {
+impl<T: Drop> From<AllocFailed<T>> for DriveError {
     ghost from_gives = { λ _ e. e ≡ Memory };
 
-    fn from(_e: AllocFailed<T>) -> DriveFault {
-        DriveFault::Memory
+    fn from(_e: AllocFailed<T>) -> DriveError {
+        DriveError::Memory
     }
 }

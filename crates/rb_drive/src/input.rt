@@ -7,7 +7,7 @@ ghost use Rattle.rb_drive.specs.Reading.{with_line};
 ghost use Rattle.rb_drive.specs.declared.entries.LineEntry.TheVariants.{Table, Changeset};
 
 use crate::entries::{LineEntry, entry_in};
-use crate::fault::DriveFault;
+use crate::fault::DriveError;
 use crate::progress::Progress;
 use cs_model::{Octets, Schema, SchemaError, Shape};
 use rb_script::{MOST_OF_LINE, read_some};
@@ -55,7 +55,7 @@ pub fn read_input<R: Read>(
     alloc: Global,
     reader: &mut R,
     progress: &Progress,
-) -> Result<Input, DriveFault>
+) -> Result<Input, DriveError>
     ensures { InputEnds result (R.remaining reader.old) (R.remaining reader.new) }
 {
     let mut buffer = zeros(alloc, PIECE)?;
@@ -65,7 +65,7 @@ pub fn read_input<R: Read>(
         progress.set_read(lines_in(&reading));
         let read = match read_some(reader, piece) {
             Ok(n) => n,
-            Err(why) => return Err(DriveFault::Read(why)),
+            Err(why) => return Err(DriveError::Read(why)),
         };
         if read == 0 {
             return finish(alloc, reading);
@@ -95,7 +95,7 @@ fn nothing_read(alloc: Global) -> Reading
 }
 
 // Goes over these bytes.
-fn feed(alloc: Global, reading: &mut Reading, bytes: &[u8]) -> Result<(), DriveFault>
+fn feed(alloc: Global, reading: &mut Reading, bytes: &[u8]) -> Result<(), DriveError>
     ensures { ReadingGoesOn reading.old bytes.now result reading.new }
 {
     for byte in bytes {
@@ -105,7 +105,7 @@ fn feed(alloc: Global, reading: &mut Reading, bytes: &[u8]) -> Result<(), DriveF
 }
 
 // A line that is too long is bad before its end comes, so that an endless one ends.
-fn take_byte(alloc: Global, reading: &mut Reading, byte: u8) -> Result<(), DriveFault>
+fn take_byte(alloc: Global, reading: &mut Reading, byte: u8) -> Result<(), DriveError>
     ensures { ReadingGoesOn reading.old (byte ∷ []) result reading.new }
 {
     if byte == b'\n' {
@@ -114,14 +114,14 @@ fn take_byte(alloc: Global, reading: &mut Reading, byte: u8) -> Result<(), Drive
         return Ok(());
     }
     if reading.line.len() >= MOST_OF_LINE {
-        return Err(DriveFault::Line(next_line(&reading.input)));
+        return Err(DriveError::Line(next_line(&reading.input)));
     }
     reading.line.push(byte)?;
     Ok(())
 }
 
 // Ends the input. What comes after the last line end is a line if it is not empty.
-fn finish(alloc: Global, reading: Reading) -> Result<Input, DriveFault>
+fn finish(alloc: Global, reading: Reading) -> Result<Input, DriveError>
     ensures { EndsAfter reading result }
 {
     let Reading { mut input, line } = reading;
@@ -132,39 +132,39 @@ fn finish(alloc: Global, reading: Reading) -> Result<Input, DriveFault>
 }
 
 // Adds what a line says to the input, or returns `Line` if it is a bad one.
-fn add_line(alloc: Global, input: &mut Input, line: &[u8]) -> Result<(), DriveFault>
+fn add_line(alloc: Global, input: &mut Input, line: &[u8]) -> Result<(), DriveError>
     ensures { AddEnds (with_line input.old.schema input.old.givens.items line.now) input.old
         result input.new }
 {
     match entry_in(alloc, line)? {
-        None => Err(DriveFault::Line(next_line(input))),
+        None => Err(DriveError::Line(next_line(input))),
         Some(LineEntry::Table(shape)) => add_table(input, shape),
         Some(LineEntry::Changeset { publisher, text }) => add_changeset(input, publisher, text),
     }
 }
 
 // The tables come before the changesets.
-fn add_table(input: &mut Input, shape: Shape) -> Result<(), DriveFault>
+fn add_table(input: &mut Input, shape: Shape) -> Result<(), DriveError>
     ensures { AddEnds (with_entry input.old.schema input.old.givens.items (Some (Table shape)))
         input.old result input.new }
 {
     if !input.givens.is_empty() {
-        return Err(DriveFault::Line(next_line(input)));
+        return Err(DriveError::Line(next_line(input)));
     }
     match input.schema.add(shape) {
         Ok(()) => Ok(()),
-        Err(SchemaError::Fault(_)) => Err(DriveFault::Line(next_line(input))),
-        Err(SchemaError::Memory) => Err(DriveFault::Memory),
+        Err(SchemaError::Fault(_)) => Err(DriveError::Line(next_line(input))),
+        Err(SchemaError::Memory) => Err(DriveError::Memory),
     }
 }
 
-fn add_changeset(input: &mut Input, publisher: u64, text: Octets) -> Result<(), DriveFault>
+fn add_changeset(input: &mut Input, publisher: u64, text: Octets) -> Result<(), DriveError>
     ensures { AddEnds (with_entry input.old.schema input.old.givens.items
         (Some (Changeset publisher text))) input.old result input.new }
 {
     let line = next_line(input);
     if input.givens.len() >= MOST_OF_CHANGESETS {
-        return Err(DriveFault::Line(line));
+        return Err(DriveError::Line(line));
     }
     input.givens.push(Given {
         line,

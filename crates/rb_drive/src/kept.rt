@@ -1,18 +1,18 @@
 //! A subscription, and the replica that keeps its rows and its cursor, if it has one.
 
-ghost use Rattle.std.specs.{Prelude.{◌≡◌, IfSome}, Coded.{codes}};
+ghost use Rattle.std.specs.{Prelude.{◌≡◌, IfSome, true}, Coded.{codes}};
 ghost use Rattle.sqlite.specs.Held.{state};
 ghost use Rattle.cs_apply.specs.State.{state_code};
 ghost use Rattle.rb_subscriber.specs.Subscription.{SubscriptionState};
 ghost use Rattle.rb_drive.specs.{
-  Ending.{ShowsOneConflict},
+  Ending.{HasStepped, ShowsOneConflict, settling_step},
   Kept.{KeepsSubscription, without_store},
   Owners.{beginning_of},
 };
 
 use crate::ending::Settling;
 use par_apply::Open;
-use rb_broker::{Broker, Hall, TakeError};
+use rb_broker::{Broker, BrokerBrand, TakeError};
 use rb_desk::Delivery;
 use rb_subscriber::{AcceptRefusal, DurableError, Subscription, SubscriptionError, Workers};
 use replica_store::{Replica, ReplicaError};
@@ -25,12 +25,12 @@ use std::thread::Threads;
 /// A subscription with its replica, if it has one. Until the subscription falls, the replica has
 /// its rows and its cursor.
 #[derive(Drop)]
-pub struct KeptSubscription<L: Hall, S: Alter> {
+pub struct KeptSubscription<L: BrokerBrand, S: Alter> {
     subscription: Subscription<L>,
     replica: Option<Replica<S>>,
 }
 
-impl<L: Hall, S: Alter> Model for KeptSubscription<L, S> {
+impl<L: BrokerBrand, S: Alter> Model for KeptSubscription<L, S> {
     ghost Value = { SubscriptionState };
 
     ghost coded = { Prim.hlevel (codes, state_code) };
@@ -41,7 +41,7 @@ impl<L: Hall, S: Alter> Model for KeptSubscription<L, S> {
         (λ r. KeepsSubscription (state S.Store r.conn) k.subscription) };
 }
 
-impl<L: Hall, S: Alter> KeptSubscription<L, S> {
+impl<L: BrokerBrand, S: Alter> KeptSubscription<L, S> {
     /// A subscription with this replica, or without one.
     pub fn new(subscription: Subscription<L>, replica: Option<Replica<S>>) -> KeptSubscription<L, S>
         requires { IfSome replica (λ r. KeepsSubscription (state S.Store r.conn) subscription) }
@@ -93,7 +93,7 @@ impl<L: Hall, S: Alter> KeptSubscription<L, S> {
         accept_into(workers, alloc, broker, subscription, replica, delivery)
     }
 
-    /// Settles a delivery. False if that is refused.
+    /// Settles a delivery in this way. False if that is refused.
     pub fn settle<R: Wait>(
         &mut self,
         rt: &R,
@@ -102,7 +102,9 @@ impl<L: Hall, S: Alter> KeptSubscription<L, S> {
         delivery: &Delivery,
         how: Settling,
     ) -> bool
-        ensures { beginning_of self.new ≡ beginning_of self.old }
+        ensures begun { beginning_of self.new ≡ beginning_of self.old }
+        ensures stepped { result ≡ true
+            → HasStepped (settling_step how delivery.now self.old) self.old.owner self.new.owner }
     {
         let subscription = &mut self.subscription;
         match how {
@@ -115,7 +117,7 @@ impl<L: Hall, S: Alter> KeptSubscription<L, S> {
     }
 }
 
-fn accept_into<L: Hall, S: Alter, R: Threads + Wait + Sync>(
+fn accept_into<L: BrokerBrand, S: Alter, R: Threads + Wait + Sync>(
     workers: &Workers<R, Open>,
     alloc: Global,
     broker: &Broker<L>,
@@ -138,7 +140,7 @@ fn accept_into<L: Hall, S: Alter, R: Threads + Wait + Sync>(
 }
 
 // accepts into the replica and the subscription's tables
-fn accept_both<L: Hall, S: Alter, R: Threads + Wait + Sync>(
+fn accept_both<L: BrokerBrand, S: Alter, R: Threads + Wait + Sync>(
     workers: &Workers<R, Open>,
     alloc: Global,
     broker: &Broker<L>,
@@ -170,7 +172,7 @@ fn without_store(
 }
 
 // accepts into the subscription's tables alone
-fn accept_tables<L: Hall, R: Threads + Wait + Sync>(
+fn accept_tables<L: BrokerBrand, R: Threads + Wait + Sync>(
     workers: &Workers<R, Open>,
     alloc: Global,
     broker: &Broker<L>,

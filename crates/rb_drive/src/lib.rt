@@ -25,6 +25,6 @@ mod run;
 mod signs;
 
 pub use closing::Closable;
-pub use fault::DriveFault;
+pub use fault::DriveError;
 pub use progress::{DriveCounts, Progress};
 pub use run::{run_drive, run_durable_drive};

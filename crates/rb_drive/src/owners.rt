@@ -8,7 +8,7 @@ use crate::accepting::Accepting;
 use crate::placing::place;
 use crate::publishing::Publishing;
 use crate::signs::Signs;
-use rb_broker::{Broker, Hall};
+use rb_broker::{Broker, BrokerBrand};
 use rb_sequencer::Sequencer;
 use rb_subscriber::Stake;
 use sqlite::Alter;
@@ -21,7 +21,7 @@ use std::thread::{Promise, PromisedHandle, Threads};
 /// The owners: the publishers in the order of their numbers, the sequencer, with the stake of who
 /// closes the sequence, and the subscribers.
 #[derive(Drop)]
-pub struct Owners<L: Hall, S: Alter> {
+pub struct Owners<L: BrokerBrand, S: Alter> {
     pub publishing: Vec<Publishing<L>>,
     pub sequencer: Sequencer<L>,
     pub keeper: Stake<L>,
@@ -30,9 +30,9 @@ pub struct Owners<L: Hall, S: Alter> {
 
 // a publisher comes back with its number, its tables and its lines
 #[derive(Drop)]
-struct SameLines<L: Hall>(Snapshot<Publishing<L>>);
+struct SameLines<L: BrokerBrand>(Snapshot<Publishing<L>>);
 
-impl<L: Hall> Promise<Publishing<L>> for SameLines<L> {
+impl<L: BrokerBrand> Promise<Publishing<L>> for SameLines<L> {
     ghost use Rattle.std.specs.Prelude.{◌≡◌};
     ghost use Rattle.rb_drive.specs.Owners.{publisher_lines};
 
@@ -42,9 +42,9 @@ impl<L: Hall> Promise<Publishing<L>> for SameLines<L> {
 
 // a subscription comes back that began as it did
 #[derive(Drop)]
-struct SameBeginning<L: Hall, S: Alter>(Snapshot<Accepting<L, S>>);
+struct SameBeginning<L: BrokerBrand, S: Alter>(Snapshot<Accepting<L, S>>);
 
-impl<L: Hall, S: Alter> Promise<Accepting<L, S>> for SameBeginning<L, S> {
+impl<L: BrokerBrand, S: Alter> Promise<Accepting<L, S>> for SameBeginning<L, S> {
     ghost use Rattle.std.specs.Prelude.{◌≡◌};
     ghost use Rattle.rb_drive.specs.Owners.{beginning_of};
 
@@ -53,7 +53,7 @@ impl<L: Hall, S: Alter> Promise<Accepting<L, S>> for SameBeginning<L, S> {
 
 /// Starts a thread for each owner, and gives all back once they have ended. Returns `None` if they
 /// were stopped, because a thread can't be made or memory ran out.
-pub fn run_all<L: Hall + Send + Sync, S: Alter + Drop + Send, R: Threads + Wait + Sync>(
+pub fn run_all<L: BrokerBrand + Send + Sync, S: Alter + Drop + Send, R: Threads + Wait + Sync>(
     rt: &R,
     alloc: Global,
     broker: &Broker<L>,
@@ -136,7 +136,7 @@ pub fn run_all<L: Hall + Send + Sync, S: Alter + Drop + Send, R: Threads + Wait 
 }
 
 // the publishers, in order, once their threads have ended
-fn join_publishers<L: Hall, R: Threads>(
+fn join_publishers<L: BrokerBrand, R: Threads>(
     rt: &R,
     alloc: Global,
     handles: Vec<PromisedHandle<Publishing<L>, SameLines<L>>>,
@@ -154,7 +154,7 @@ fn join_publishers<L: Hall, R: Threads>(
 }
 
 // the subscribers, in order, once their threads have ended
-fn join_subscribers<L: Hall, S: Alter + Drop, R: Threads>(
+fn join_subscribers<L: BrokerBrand, S: Alter + Drop, R: Threads>(
     rt: &R,
     alloc: Global,
     handles: Vec<PromisedHandle<Accepting<L, S>, SameBeginning<L, S>>>,
@@ -171,7 +171,7 @@ fn join_subscribers<L: Hall, S: Alter + Drop, R: Threads>(
 }
 
 // what a publisher's thread does
-fn published<L: Hall, R: Wait>(
+fn published<L: BrokerBrand, R: Wait>(
     rt: &R,
     alloc: Global,
     broker: &Broker<L>,
@@ -190,7 +190,7 @@ fn published<L: Hall, R: Wait>(
 }
 
 // what the sequencer's thread does
-fn placed<L: Hall, R: Wait>(
+fn placed<L: BrokerBrand, R: Wait>(
     rt: &R,
     alloc: Global,
     broker: &Broker<L>,
@@ -206,7 +206,7 @@ fn placed<L: Hall, R: Wait>(
 }
 
 // what a subscriber's thread does
-fn accepted<L: Hall, S: Alter, R: Threads + Wait + Sync>(
+fn accepted<L: BrokerBrand, S: Alter, R: Threads + Wait + Sync>(
     rt: &R,
     alloc: Global,
     broker: &Broker<L>,

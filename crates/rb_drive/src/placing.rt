@@ -1,7 +1,7 @@
 //! The sequencer's thread: places what is sent, and closes the sequence at its end.
 
 use crate::signs::Signs;
-use rb_broker::{Broker, Hall, PlaceRefusal};
+use rb_broker::{Broker, BrokerBrand, PlaceError};
 use rb_sequencer::{Sequencer, Turn};
 use rb_subscriber::Stake;
 use std::alloc::{AllocError, Global};
@@ -9,7 +9,7 @@ use std::sync::Wait;
 
 /// Takes turns. Closes the sequence at a turn that is refused, or at an idle one that began after
 /// all publishers had ended.
-pub fn place<L: Hall, R: Wait>(
+pub fn place<L: BrokerBrand, R: Wait>(
     rt: &R,
     alloc: Global,
     broker: &Broker<L>,
@@ -35,7 +35,7 @@ pub fn place<L: Hall, R: Wait>(
                 signs.sent.wait(rt, seen, looks);
                 looks = looks.saturating_add(1);
             }
-            Turn::Refused(PlaceRefusal::Memory) => return Err(AllocError),
+            Turn::Refused(PlaceError::Memory) => return Err(AllocError),
             Turn::Idle(_) | Turn::Refused(_) => return Ok(close(rt, broker, signs, keeper)),
         }
     }
@@ -43,7 +43,12 @@ pub fn place<L: Hall, R: Wait>(
 }
 
 // closes the sequence, and tells all who wait
-fn close<L: Hall, R: Wait>(rt: &R, broker: &Broker<L>, signs: &Signs, keeper: &mut Stake<L>) {
+fn close<L: BrokerBrand, R: Wait>(
+    rt: &R,
+    broker: &Broker<L>,
+    signs: &Signs,
+    keeper: &mut Stake<L>,
+) {
     if broker.close(rt, keeper).is_none() {
         signs.stop();
     }

@@ -16,7 +16,7 @@ use crate::input::Given;
 use crate::signs::Signs;
 use cs_parse::laws::{progress_goes_on, progress_tells};
 use cs_parse::{EndError, ParseError};
-use rb_broker::{Broker, Hall, Publisher, SendRefusal, StagedSet};
+use rb_broker::{Broker, BrokerBrand, Publisher, SendRefusal, StagedSet};
 use std::alloc::{AllocError, Global};
 use std::sync::Wait;
 
@@ -34,7 +34,7 @@ pub struct FaultyLine {
 /// A publisher with its lines. It sent the changesets of those that are done, in their order, and
 /// nothing else.
 #[derive(Drop)]
-pub struct Publishing<L: Hall> {
+pub struct Publishing<L: BrokerBrand> {
     pub publisher: Publisher<L>,
     pub lines: Vec<Given>,
     /// How many of the lines were sent or are faulty.
@@ -46,7 +46,7 @@ pub struct Publishing<L: Hall> {
     ghost done_faulty: { faulty.items ≡ faulty_lines publisher.schema (take done lines.items) },
 }
 
-impl<L: Hall> Publishing<L> {
+impl<L: BrokerBrand> Publishing<L> {
     /// A publisher that has sent nothing.
     pub fn new(alloc: Global, publisher: Publisher<L>, lines: Vec<Given>) -> Publishing<L>
         requires { publisher.sent ≡ [] }
@@ -115,7 +115,7 @@ impl<L: Hall> Publishing<L> {
 }
 
 // stages the changeset that these bytes encode, or says why there is none that can be sent
-fn stage<L: Hall>(
+fn stage<L: BrokerBrand>(
     alloc: Global,
     publisher: &mut Publisher<L>,
     text: &[u8],
@@ -135,7 +135,11 @@ fn stage<L: Hall>(
 }
 
 // feeds bytes to an empty stream, up to a fault
-fn feed<L: Hall>(alloc: Global, publisher: &mut Publisher<L>, text: &[u8]) -> Result<(), ParseError>
+fn feed<L: BrokerBrand>(
+    alloc: Global,
+    publisher: &mut Publisher<L>,
+    text: &[u8],
+) -> Result<(), ParseError>
     requires { publisher.old.stream ≡ nothing }
     ensures ok { OnOk result (publisher.new.stream ≡ progress_of text.now) }
     ensures err { IfErr result (FeedStops text.now) }
@@ -156,7 +160,7 @@ fn are_bytes(bytes: &[u8])
 {}
 
 // Sends a set, as often as the intake is full. False if the sequence is closed or all loops end.
-fn send<L: Hall, R: Wait>(
+fn send<L: BrokerBrand, R: Wait>(
     rt: &R,
     broker: &Broker<L>,
     signs: &Signs,

@@ -20,7 +20,7 @@ use crate::publishing::FaultyLine;
 use cs_apply::Tables;
 use cs_model::{Row, RowKey, SectionFault};
 use cs_parse::EndError;
-use rb_broker::Hall;
+use rb_broker::BrokerBrand;
 use rb_script::{add_row, flush, name_of, write_whole};
 use std::alloc::{AllocError, Global};
 use std::io;
@@ -28,7 +28,7 @@ use std::io::Write;
 
 /// Writes the counts, the faulty lines by rising number, and each subscriber with its rows. An
 /// `Err` has written a prefix.
-pub fn write_report<L: Hall, W: Write>(
+pub fn write_report<L: BrokerBrand, W: Write>(
     alloc: Global,
     writer: &mut W,
     outcome: &Outcome<L>,
@@ -45,7 +45,7 @@ pub fn write_report<L: Hall, W: Write>(
 
 // the text, then each subscriber and its rows
 #[tactic(auto, using(crate::proofs::outcomes::ReportLaws::report_fronts))]
-fn write_with_subscribers<L: Hall, W: Write>(
+fn write_with_subscribers<L: BrokerBrand, W: Write>(
     alloc: Global,
     writer: &mut W,
     text: &[u8],
@@ -112,7 +112,7 @@ fn fault_said(alloc: Global, why: EndError) -> Result<String, AllocError>
 }
 
 // each subscriber and its rows
-fn write_subscribers<L: Hall, W: Write>(
+fn write_subscribers<L: BrokerBrand, W: Write>(
     alloc: Global,
     writer: &mut W,
     all: &[EndedSubscriber<L>],
@@ -131,7 +131,7 @@ fn write_subscribers<L: Hall, W: Write>(
 }
 
 // a subscriber and its rows
-fn write_subscriber<L: Hall, W: Write>(
+fn write_subscriber<L: BrokerBrand, W: Write>(
     alloc: Global,
     writer: &mut W,
     number: usize,

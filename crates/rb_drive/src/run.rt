@@ -7,19 +7,19 @@ ghost use Rattle.std.specs.FinMap as map;
 ghost use Rattle.replica_store.specs.{Durable.{KeepsRows}, Layout.{empty_schema}};
 ghost use Rattle.sqlite.specs.Held.{state};
 ghost use Rattle.rb_drive.specs.Run.{DriveEnds, IsOfThreads, IsStatus, ReportEnds};
-ghost use Rattle.rb_drive.specs.declared.fault.DriveFault.TheVariants.{Store, TooMany};
+ghost use Rattle.rb_drive.specs.declared.fault.DriveError.TheVariants.{Store, Subscribers};
 
 use crate::accepting::EndedSubscriber;
 use crate::closing::Closable;
 use crate::drive::{Plan, drive};
 use crate::ending::SubscriberEnd;
-use crate::fault::DriveFault;
+use crate::fault::DriveError;
 use crate::input::{Input, read_input};
 use crate::lines::by_publisher;
 use crate::progress::Progress;
 use crate::report::write_report;
 use cs_model::{CopyIn, Schema};
-use rb_broker::{Hall, Opened};
+use rb_broker::{BrokerBrand, Opened};
 use rb_desk::Config;
 use rb_subscriber::MOST_SUBSCRIPTIONS;
 use replica_store::{Replica, ReplicaError};
@@ -37,9 +37,9 @@ use std::thread::Threads;
 ///
 /// Returns 0, or 3 if a subscriber ended by a conflict.
 ///
-/// Returns `TooMany` first of all, for more than 1,024 subscribers: nothing is read then. Returns
-/// `Line` with the first line that is none of an input, `Read` if the reader fails, `Stopped` if
-/// the threads were stopped, and `Memory`. Nothing is written then. Returns `Write` if the writer
+/// Returns `Subscribers` first of all, for more than 1,024 subscribers: nothing is read then.
+/// Returns `Line` with the first line that is none of an input, `Read` if the reader fails,
+/// `Stopped` if the threads were stopped, and `Memory`. Nothing is written then. Returns `Write` if the writer
 /// fails, or if memory runs out while the report is written. A prefix of it may be written then.
 pub fn run_drive<I: Read, W: Write, R: Threads + Wait + Sync>(
     rt: &R,
@@ -49,10 +49,10 @@ pub fn run_drive<I: Read, W: Write, R: Threads + Wait + Sync>(
     config: Config,
     subscribers: u64,
     progress: &Progress,
-) -> Result<u8, DriveFault>
+) -> Result<u8, DriveError>
     ensures ends { DriveEnds config subscribers result (I.remaining reader.old)
         (I.remaining reader.new) (W.contents writer.old) (W.contents writer.new) }
-    ensures many { 1024 < subscribers → result ≡ Err TooMany }
+    ensures many { 1024 < subscribers → result ≡ Err Subscribers }
     ensures unstored { result ≡ Err Store → ⊥ }
 {
     run_over::<MemStore, I, W, R>(
@@ -83,7 +83,7 @@ pub fn run_durable_drive<S, I, W, R>(
     subscribers: u64,
     file: Result<Connection<S>, Error>,
     progress: &Progress,
-) -> Result<u8, DriveFault>
+) -> Result<u8, DriveError>
 where
     S: Closable + Drop + Send,
     I: Read,
@@ -91,7 +91,7 @@ where
     R: Threads + Wait + Sync,
     ensures ends { DriveEnds config subscribers result (I.remaining reader.old)
         (I.remaining reader.new) (W.contents writer.old) (W.contents writer.new) }
-    ensures many { 1024 < subscribers → result ≡ Err TooMany }
+    ensures many { 1024 < subscribers → result ≡ Err Subscribers }
     ensures opened { OnOk result (IsOk file) }
     ensures blank { OnOk result (IfOk file (λ conn. conn.schema ≡ empty_schema)) }
 {
@@ -117,17 +117,17 @@ fn run_over<S: Closable + Drop + Send, I: Read, W: Write, R: Threads + Wait + Sy
     subscribers: u64,
     file: Option<Result<Connection<S>, Error>>,
     progress: &Progress,
-) -> Result<u8, DriveFault>
+) -> Result<u8, DriveError>
     ensures ends { DriveEnds config subscribers result (I.remaining reader.old)
         (I.remaining reader.new) (W.contents writer.old) (W.contents writer.new) }
-    ensures many { 1024 < subscribers → result ≡ Err TooMany }
+    ensures many { 1024 < subscribers → result ≡ Err Subscribers }
     ensures opened { OnOk result (IfSome file IsOk) }
     ensures blank { OnOk result (IfSome file (λ f.
         IfOk f (λ conn. conn.schema ≡ empty_schema))) }
     ensures stored { result ≡ Err Store → IsSome file }
 {
     if subscribers > MOST_SUBSCRIPTIONS {
-        return Err(DriveFault::TooMany);
+        return Err(DriveError::Subscribers);
     }
     let Input { schema, givens } = read_input(alloc, reader, progress)?;
     let shared = Arc::new(alloc, schema.copy_in(alloc)?)?;
@@ -147,7 +147,7 @@ fn run_over<S: Closable + Drop + Send, I: Read, W: Write, R: Threads + Wait + Sy
 fn new_replica<S: Alter + Drop>(
     file: Option<Result<Connection<S>, Error>>,
     schema: Arc<Schema>,
-) -> Result<Option<Replica<S>>, DriveFault>
+) -> Result<Option<Replica<S>>, DriveError>
     ensures keeps { IfOk result (λ replica.
         IfSome replica (λ r. KeepsRows (state S.Store r.conn) map.empty 0)) }
     ensures given { IfOk result (λ replica. is_some replica ≡ is_some file) }
@@ -159,13 +159,13 @@ fn new_replica<S: Alter + Drop>(
 {
     match file {
         None => Ok(None),
-        Some(Err(Error::SqliteFailure(ErrorCode::OutOfMemory))) => Err(DriveFault::Memory),
-        Some(Err(_)) => Err(DriveFault::Store),
+        Some(Err(Error::SqliteFailure(ErrorCode::OutOfMemory))) => Err(DriveError::Memory),
+        Some(Err(_)) => Err(DriveError::Store),
         Some(Ok(conn)) => match Replica::create(conn, schema) {
             Ok(replica) => Ok(Some(replica)),
             Err(refused) => match refused.why {
-                ReplicaError::Memory => Err(DriveFault::Memory),
-                ReplicaError::Store | ReplicaError::Unusable => Err(DriveFault::Store),
+                ReplicaError::Memory => Err(DriveError::Memory),
+                ReplicaError::Store | ReplicaError::Unusable => Err(DriveError::Store),
             },
         },
     }
@@ -179,9 +179,9 @@ fn report<L, S, W, R>(
     opened: Opened,
     plan: Plan<S>,
     progress: &Progress,
-) -> Result<u8, DriveFault>
+) -> Result<u8, DriveError>
 where
-    L: Hall + Send + Sync,
+    L: BrokerBrand + Send + Sync,
     S: Closable + Drop + Send,
     W: Write,
     R: Threads + Wait + Sync,
@@ -199,12 +199,12 @@ where
     let outcome = drive::<L, S, R>(rt, alloc, opened, plan, progress)?;
     match write_report(alloc, writer, &outcome) {
         Ok(()) => Ok(status(&outcome.accepting)),
-        Err(why) => Err(DriveFault::Write(why)),
+        Err(why) => Err(DriveError::Write(why)),
     }
 }
 
 // 3 if a subscriber ended by a conflict, else 0
-fn status<L: Hall>(accepting: &[EndedSubscriber<L>]) -> u8
+fn status<L: BrokerBrand>(accepting: &[EndedSubscriber<L>]) -> u8
     ensures { IsStatus (map (λ a. a.ending) accepting.now) result }
 {
     for one in accepting {

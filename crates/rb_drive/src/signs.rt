@@ -17,8 +17,8 @@ fn longest() -> Duration {
     Duration::from_millis(1_000)
 }
 
-/// Ends waits. It counts its rings: who reads the count, looks for something, finds nothing and
-/// then waits for more rings than were read, misses none that came in between.
+/// Ends waits. It counts its rings: a thread that reads the count, looks for something, finds
+/// nothing and then waits for more rings than it read, misses none that came in between.
 #[derive(Drop)]
 pub struct Bell {
     rings: AtomicU64,
@@ -59,7 +59,8 @@ impl Bell {
     }
 }
 
-/// What the threads of a drive share beside the broker. Who changes something rings afterwards.
+/// What the threads of a drive share besides the broker. A thread that changes something rings the
+/// bell afterwards.
 #[derive(Drop)]
 pub struct Signs<'a> {
     stopped: AtomicBool,

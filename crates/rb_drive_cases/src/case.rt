@@ -1,42 +1,44 @@
-//! `DriveCase`: an input with its expected report, read from files and compared.
+//! `DriveCase`: an input with its expected report, which is compared.
 
 use crate::counting::reported;
+use crate::packs::DrivePacks;
 use crate::replica::replica_lines;
-use rb_case_files::{Options, difference, lines, read_if_there};
-use rb_drive::{DriveCounts, DriveFault, Progress, run_drive, run_durable_drive};
+use rb_case_files::{Options, difference, lines};
+use rb_drive::{DriveCounts, DriveError, Progress, run_drive, run_durable_drive};
 use sqlite::{Connection, Error, FileStore};
 use sqlite_disk::{Disk, Memory};
 use std::alloc::{AllocError, Global};
 use std::sync::Wait;
 use std::thread::Threads;
-use std::{fs, io};
 
 /// An input, its options, its expected report, how it is expected to end, and what the replica of
 /// its first subscriber must have, if it is driven with one too.
-#[derive(Drop)]
-pub struct DriveCase {
-    input: Vec<u8>,
-    options: Vec<u8>,
-    report: Vec<u8>,
-    ending: Vec<u8>,
-    replica: Vec<u8>,
+#[derive(Clone, Copy)]
+pub struct DriveCase<'a> {
+    input: &'a [u8],
+    options: &'a [u8],
+    report: &'a [u8],
+    ending: &'a [u8],
+    replica: &'a [u8],
 }
 
-impl DriveCase {
-    /// Reads `NAME.drive` and, if they exist, `NAME.args`, such as `--batch 1 --subscribers 2`,
-    /// `NAME.report`, `NAME.replica`, and how it ends: `NAME.status` or `NAME.fault`.
-    pub fn read(rt: &HostRuntime, alloc: Global, name: &str) -> io::Result<DriveCase> {
-        let mut ending = read_if_there(rt, alloc, &format!(in alloc; "{name}.status")?)?;
-        if ending.is_empty() {
-            ending = read_if_there(rt, alloc, &format!(in alloc; "{name}.fault")?)?;
-        }
-        Ok(DriveCase {
-            input: fs::read(rt, format!(in alloc; "{name}.drive")?)?,
-            options: read_if_there(rt, alloc, &format!(in alloc; "{name}.args")?)?,
-            report: read_if_there(rt, alloc, &format!(in alloc; "{name}.report")?)?,
+impl<'a> DriveCase<'a> {
+    /// The drive of this name. Its options are such as `--batch 1 --subscribers 2`, and how it ends
+    /// is its status or its fault.
+    pub fn of(packs: &'a DrivePacks, name: &str) -> DriveCase<'a> {
+        let status = packs.status.text(name);
+        let ending = if status.is_empty() {
+            packs.fault.text(name)
+        } else {
+            status
+        };
+        DriveCase {
+            input: packs.drive.text(name),
+            options: packs.args.text(name),
+            report: packs.report.text(name),
             ending,
-            replica: read_if_there(rt, alloc, &format!(in alloc; "{name}.replica")?)?,
-        })
+            replica: packs.replica.text(name),
+        }
     }
 
     /// Whether it is driven with a replica too.
@@ -71,7 +73,7 @@ impl DriveCase {
         alloc: Global,
         file: Option<Result<Connection<FileStore<D>>, Error>>,
     ) -> Result<Result<usize, String>, AllocError> {
-        let Some(options) = Options::of(&self.options) else {
+        let Some(options) = Options::of(self.options) else {
             return Ok(Err(String::from_str(alloc, "no such options")?));
         };
         let Options {
@@ -80,7 +82,7 @@ impl DriveCase {
             ..
         } = options;
         let progress = Progress::new(alloc, subscribers)?;
-        let mut reader: &[u8] = &self.input;
+        let mut reader: &[u8] = self.input;
         let mut written = Vec::new(alloc);
         let (from, to) = (&mut reader, &mut written);
         let ended = match file {
@@ -97,22 +99,22 @@ impl DriveCase {
 
     // whether this is what the input has and the report must say
     fn has_counted(&self, alloc: Global, counts: DriveCounts) -> Result<bool, AllocError> {
-        Ok(counts == reported(alloc, &self.input, &self.report)?)
+        Ok(counts == reported(alloc, self.input, self.report)?)
     }
 
     // compares the ending and the report
     fn compare(
         &self,
         alloc: Global,
-        ended: &Result<u8, DriveFault>,
+        ended: &Result<u8, DriveError>,
         written: &[u8],
     ) -> Result<Result<usize, String>, AllocError> {
         let ending = text_of_end(alloc, ended)?;
-        if ending.as_bytes() != self.ending.as_slice() {
+        if ending.as_bytes() != self.ending {
             return Ok(Err(format!(in alloc; "it ended with '{}'", ending.trim_end())?));
         }
         let given = lines(alloc, written)?;
-        let wanted = lines(alloc, &self.report)?;
+        let wanted = lines(alloc, self.report)?;
         difference(alloc, "line", &given, &wanted)
     }
 
@@ -123,17 +125,17 @@ impl DriveCase {
         alloc: Global,
         file: Result<Connection<FileStore<D>>, Error>,
     ) -> Result<Result<usize, String>, AllocError> {
-        let Ok(text) = replica_lines(alloc, &self.input, file) else {
+        let Ok(text) = replica_lines(alloc, self.input, file) else {
             return Ok(Err(String::from_str(alloc, "its replica isn't opened")?));
         };
         let given = lines(alloc, text.as_bytes())?;
-        let wanted = lines(alloc, &self.replica)?;
+        let wanted = lines(alloc, self.replica)?;
         difference(alloc, "line of the replica", &given, &wanted)
     }
 }
 
 // The status or the fault as a line; the empty text at status 0.
-fn text_of_end(alloc: Global, ended: &Result<u8, DriveFault>) -> Result<String, AllocError> {
+fn text_of_end(alloc: Global, ended: &Result<u8, DriveError>) -> Result<String, AllocError> {
     match ended {
         Ok(0) => Ok(String::new(alloc)),
         Ok(status) => format!(in alloc; "{status}\n"),

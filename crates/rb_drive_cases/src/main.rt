@@ -1,15 +1,16 @@
-//! Drives a broker with each input of a folder, and compares the report, how it ends and what it
-//! counted with what they must be. A case is files and no code. One that says what a replica must
-//! have is driven once more, with a database file. Prints what differs, and how many lines it
-//! compared.
+//! Drives a broker with each input of a folder's packs, and compares the report, how it ends and
+//! what it counted with what they must be. A case is texts and no code. One that says what a
+//! replica must have is driven once more, with a database file. Prints what differs, and how many
+//! lines it compared.
 #![tactic(auto)]
 
 mod case;
 mod counting;
+mod packs;
 mod replica;
 
 use case::DriveCase;
-use rb_case_files::names;
+use packs::DrivePacks;
 use sqlite::Connection;
 use std::alloc::Global;
 use std::process::ExitCode;
@@ -34,11 +35,12 @@ fn drives<T: Threads + Wait + Sync>(
     threads: &T,
     alloc: Global,
 ) -> io::Result<usize> {
-    let names = names(rt, alloc, ".drive")?;
+    let packs = DrivePacks::open(rt, alloc)?;
+    let names = packs.drive.names(alloc)?;
     let mut lines = 0_usize;
     let mut failed = 0_usize;
     for name in &names {
-        match compared(rt, threads, alloc, name.as_str())? {
+        match compared(rt, threads, alloc, &packs, name)? {
             Some(count) => lines = lines.saturating_add(count),
             None => failed = failed.saturating_add(1),
         }
@@ -53,9 +55,10 @@ fn compared<T: Threads + Wait + Sync>(
     rt: &HostRuntime,
     threads: &T,
     alloc: Global,
+    packs: &DrivePacks,
     name: &str,
 ) -> io::Result<Option<usize>> {
-    let case = DriveCase::read(rt, alloc, name)?;
+    let case = DriveCase::of(packs, name);
     match ran(rt, threads, alloc, name, &case)? {
         Ok(count) => Ok(Some(count)),
         Err(difference) => {
@@ -72,7 +75,7 @@ fn ran<T: Threads + Wait + Sync>(
     threads: &T,
     alloc: Global,
     name: &str,
-    case: &DriveCase,
+    case: &DriveCase<'_>,
 ) -> io::Result<Result<usize, String>> {
     let plain = case.run(threads, alloc)?;
     if !case.has_replica() {
@@ -101,7 +104,7 @@ fn ran_durable<T: Threads + Wait + Sync>(
     alloc: Global,
     path: &str,
     log: &str,
-    case: &DriveCase,
+    case: &DriveCase<'_>,
 ) -> io::Result<Result<usize, String>> {
     let lines = match case.run_durable(threads, alloc, Connection::open(rt, path))? {
         Ok(lines) => lines,

@@ -3,10 +3,10 @@ use Rattle.std.specs.Prelude.{ℕ, zero, suc, List, ◌++◌, Option, Result, Ok
 use Rattle.std.specs.Io.KnownBytes.{Appends, Keeps}
 use Rattle.std.specs.declared.io.ErrorKind.{ErrorKind}
 use Rattle.std.specs.declared.io.ErrorKind.TheVariants.{InvalidData}
-use Rattle.rb_drive.specs.declared.fault.DriveFault.{DriveFault}
-use Rattle.rb_script.specs.declared.fault.ScriptFault.{ScriptFault}
-use Rattle.rb_script.specs.declared.fault.ScriptFault.TheVariants as fault
-use Rattle.rb_show.specs.declared.show_fault.ShowFault.{ShowFault}
+use Rattle.rb_drive.specs.declared.fault.DriveError.{DriveError}
+use Rattle.rb_script.specs.declared.fault.ScriptError.{ScriptError}
+use Rattle.rb_script.specs.declared.fault.ScriptError.TheVariants as fault
+use Rattle.rb_show.specs.declared.show_fault.ShowError.{ShowError}
 use Rattle.rb_run.specs.declared.ending.Ending.{Ending}
 use Rattle.rb_run.specs.declared.ending.Ending.TheVariants.{Done, Stopped, Refused, Unshown}
 use Rattle.rb_run.specs.declared.ending.Ending.TheVariants.{Conflicting, Undriven}
@@ -14,18 +14,18 @@ use Rattle.rb_run.specs.declared.ending.Ending.TheVariants.{Misused, OutOfRange,
 use Rattle.rb_run.specs.Options.{fault_text}
 
 -- the ending for this result of a script
-abbrev pub ending_of : {A : Type 0} → Result A ScriptFault → Ending
+abbrev pub ending_of : {A : Type 0} → Result A ScriptError → Ending
 ending_of (Ok done) = Done
 ending_of (Err (fault.Refused line)) = Refused line
 ending_of (Err why) = Stopped why
 
 -- the ending for this result of showing rows
-abbrev pub ending_of_show : {A : Type 0} → Result A ShowFault → Ending
+abbrev pub ending_of_show : {A : Type 0} → Result A ShowError → Ending
 ending_of_show (Ok done) = Done
 ending_of_show (Err why) = Unshown why
 
 -- the ending for this result of a drive
-abbrev pub ending_of_drive : Result ℕ DriveFault → Ending
+abbrev pub ending_of_drive : Result ℕ DriveError → Ending
 ending_of_drive (Ok zero) = Done
 ending_of_drive (Ok (suc n)) = Conflicting
 ending_of_drive (Err why) = Undriven why

@@ -124,6 +124,6 @@ abbrev pub form_by : Option (Text × List Row) → RowForm
 form_by found = if is_set found (codes "json") then Json else Sql
 
 -- whether the subcommand has this name
-abbrev pub is_called : Option (Text × List Row) → Text → Bool
-is_called None name = false
-is_called (Some given) name = same_bytes given.0 name
+abbrev pub is_subcommand : Option (Text × List Row) → Text → Bool
+is_subcommand None name = false
+is_subcommand (Some given) name = same_bytes given.0 name

@@ -25,17 +25,17 @@ use Rattle.rb_run.specs.declared.ending.Ending.TheVariants.{Done, Stopped, Misus
 use Rattle.rb_run.specs.declared.job.Job.{Job}
 use Rattle.rb_run.specs.declared.job.Job.TheVariants as job
 use Rattle.rb_drive.specs.Run.{DriveEnds}
-use Rattle.rb_drive.specs.declared.fault.DriveFault.{DriveFault}
+use Rattle.rb_drive.specs.declared.fault.DriveError.{DriveError}
 use Rattle.rb_run.specs.Endings.{ending_of, ending_of_drive, ending_of_show}
-use Rattle.rb_run.specs.Options.{answering_by, config_by, drive_by, form_by, is_called, replica_by}
-use Rattle.rb_run.specs.Options.{watched_by}
+use Rattle.rb_run.specs.Options.{answering_by, config_by, drive_by, form_by, is_subcommand}
+use Rattle.rb_run.specs.Options.{replica_by, watched_by}
 use Rattle.rb_run.specs.declared.options.RangeFault.{RangeFault}
 use Rattle.rb_run.specs.declared.options.RangeFault.TheVariants.{Limit}
 use Rattle.rb_script.specs.declared.answering.Answering.{Answering}
-use Rattle.rb_script.specs.declared.fault.ScriptFault.{ScriptFault}
-use Rattle.rb_script.specs.declared.fault.ScriptFault.TheVariants.{Memory, Write}
+use Rattle.rb_script.specs.declared.fault.ScriptError.{ScriptError}
+use Rattle.rb_script.specs.declared.fault.ScriptError.TheVariants.{Memory, Write}
 use Rattle.rb_show.specs.declared.row_form.RowForm.{RowForm}
-use Rattle.rb_show.specs.declared.show_fault.ShowFault.{ShowFault}
+use Rattle.rb_show.specs.declared.show_fault.ShowError.{ShowError}
 use Rattle.rb_script.specs.Ends.{ScriptEnds}
 use Rattle.rb_show.specs.Showing.{ShowEnds}
 
@@ -137,11 +137,11 @@ replica_in words = replica_by (subcommand_of program words)
 
 -- whether the words call `show`, and how they ask for rows to be shown
 abbrev pub calls_show : List Text → Bool
-calls_show words = is_called (subcommand_of program words) (codes "show")
+calls_show words = is_subcommand (subcommand_of program words) (codes "show")
 
 -- whether they call `drive`
 abbrev pub calls_drive : List Text → Bool
-calls_drive words = is_called (subcommand_of program words) (codes "drive")
+calls_drive words = is_subcommand (subcommand_of program words) (codes "drive")
 
 -- whether they ask to be shown how far a drive is
 abbrev pub watched_in : List Text → Bool
@@ -169,7 +169,7 @@ AsksFor (job.Script limits how) words = AreTaken false false words
 AsksFor (job.Drive limits n path shows) words = AreTaken false true words
     × (drive_in words ≡ Ok (limits, n)) × (option_map (λ p. p.now) path ≡ replica_in words)
     × (shows ≡ watched_in words)
-AsksFor (job.Range fault) words = (AreTaken false true words × (drive_in words ≡ Err fault))
+AsksFor (job.OutOfRange fault) words = (AreTaken false true words × (drive_in words ≡ Err fault))
     ⊎ ((limit : ConfigFault) × AreTaken false false words × (config_in words ≡ Err limit)
     × (fault ≡ Limit limit))
 AsksFor (job.Show form) words = (wrong_in words ≡ []) × (calls_show words ≡ true)
@@ -180,20 +180,20 @@ AsksFor (job.Print e) words = HasKind (wrong_in words) e
 -- the program ends as that says. The reader had r0 left and has r; the writer held w0 and holds w.
 abbrev pub HasAnswered : Answering → Limits → Ending → Option (List ℕ) → Option (List ℕ)
     → Option (List ℕ) → Option (List ℕ) → Type 0
-HasAnswered how limits ending r0 r w0 w = (script : Result (Unit {0}) ScriptFault)
+HasAnswered how limits ending r0 r w0 w = (script : Result (Unit {0}) ScriptError)
     × ScriptEnds how limits script r0 r w0 w × (ending ≡ ending_of script)
 
 -- A drive is run under these limits, with n subscribers: there is a result that it ends with, and
 -- the program ends as that says.
 abbrev pub HasDriven : Limits → ℕ → Ending → Option (List ℕ) → Option (List ℕ)
     → Option (List ℕ) → Option (List ℕ) → Type 0
-HasDriven limits n ending r0 r w0 w = (driven : Result ℕ DriveFault)
+HasDriven limits n ending r0 r w0 w = (driven : Result ℕ DriveError)
     × DriveEnds limits n driven r0 r w0 w × (ending ≡ ending_of_drive driven)
 
 -- The same of rows that are shown in this form.
 abbrev pub HasShown : RowForm → Ending → Option (List ℕ) → Option (List ℕ) → Option (List ℕ)
     → Option (List ℕ) → Type 0
-HasShown form ending r0 r w0 w = (shown : Result (Unit {0}) ShowFault)
+HasShown form ending r0 r w0 w = (shown : Result (Unit {0}) ShowError)
     × ShowEnds form shown r0 r w0 w × (ending ≡ ending_of_show shown)
 
 -- the program is done, or the writer failed
@@ -217,7 +217,8 @@ abbrev pub EndsFor : Job → Ending → Option (List ℕ) → Option (List ℕ) 
     → Option (List ℕ) → Type 0
 EndsFor (job.Script limits how) ending r0 r w0 w = HasAnswered how limits ending r0 r w0 w
 EndsFor (job.Drive limits n path shows) ending r0 r w0 w = HasDriven limits n ending r0 r w0 w
-EndsFor (job.Range fault) ending r0 r w0 w = (ending ≡ OutOfRange fault) × Keeps r0 r × Keeps w0 w
+EndsFor (job.OutOfRange fault) ending r0 r w0 w =
+    (ending ≡ OutOfRange fault) × Keeps r0 r × Keeps w0 w
 EndsFor (job.Show form) ending r0 r w0 w = HasShown form ending r0 r w0 w
 EndsFor (job.Print text) ending r0 r w0 w = EndsShown (kind_of text) text ending w0 w × Keeps r0 r
 

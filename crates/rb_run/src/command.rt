@@ -136,7 +136,7 @@ fn script<'a>(alloc: Global) -> Result<Command<'a>, AllocError>
     ensures { IfOk result (λ command. IsCommand command (lone_command script_command)) }
 {
     let about = "Answers the lines of a script on standard input, one after another";
-    let command = limited(alloc, "script", about, LINES)?;
+    let command = command_with_limits(alloc, "script", about, LINES)?;
     let numbers = flag(
         alloc,
         "numbers",
@@ -155,13 +155,13 @@ fn drive<'a>(alloc: Global) -> Result<Command<'a>, AllocError>
     ensures { IfOk result (λ command. IsCommand command (lone_command drive_command)) }
 {
     let about = "Drives a broker with the changesets on standard input, in threads";
-    let command = limited(alloc, "drive", about, DRIVEN)?;
+    let command = command_with_limits(alloc, "drive", about, DRIVEN)?;
     let subscribers = limit(alloc, "subscribers", "1", "How many subscribers, 1 to 16");
     let appliers = limit(
         alloc,
         "appliers",
         "1",
-        "How many threads apply a delivery, 1 to 16: more than one pays for rows of some kilobytes",
+        "How many threads apply a delivery, 1 to 16: two or more help only with rows of some 4 KB",
     );
     let replica = path(
         alloc,
@@ -181,7 +181,7 @@ fn drive<'a>(alloc: Global) -> Result<Command<'a>, AllocError>
 }
 
 // a subcommand whose first options are the five limits of a broker
-fn limited<'a>(
+fn command_with_limits<'a>(
     alloc: Global,
     name: &'a str,
     about: &'a str,

@@ -8,11 +8,11 @@ ghost use Rattle.rb_run.specs.Endings.{IsReported, ending_of, ending_of_drive, e
 ghost use Rattle.rb_run.specs.Endings.{ending_of_words};
 ghost use Rattle.rb_run.specs.Endings.{message, status_of};
 
-use crate::options::{RangeFault, range};
+use crate::options::{RangeFault, fault_text};
 use clap::Error;
-use rb_drive::DriveFault;
-use rb_script::{RefusedLine, ScriptFault};
-use rb_show::ShowFault;
+use rb_drive::DriveError;
+use rb_script::{RefusedLine, ScriptError};
+use rb_show::ShowError;
 use std::fmt::Display;
 use std::io;
 use std::io::Write;
@@ -25,13 +25,13 @@ pub enum Ending {
     /// shown, or help is printed.
     Done,
     /// The script or the printing stopped.
-    Stopped(ScriptFault),
+    Stopped(ScriptError),
     /// A strict script stopped after this line.
     Refused(RefusedLine),
     /// The showing of rows stopped.
-    Unshown(ShowFault),
+    Unshown(ShowError),
     /// A drive ended without a report.
-    Undriven(DriveFault),
+    Undriven(DriveError),
     /// A subscriber of a drive ended by a conflict. The report says so.
     Conflicting,
     /// The words of the command line aren't the program's, for this reason.
@@ -44,18 +44,18 @@ pub enum Ending {
 
 impl Ending {
     /// The ending for this result of a script.
-    pub fn of(script: Result<(), ScriptFault>) -> Ending
+    pub fn of(script: Result<(), ScriptError>) -> Ending
         ensures { result ≡ ending_of script }
     {
         match script {
             Ok(()) => Ending::Done,
-            Err(ScriptFault::Refused(line)) => Ending::Refused(line),
+            Err(ScriptError::Refused(line)) => Ending::Refused(line),
             Err(fault) => Ending::Stopped(fault),
         }
     }
 
     /// The ending for this result of showing rows.
-    pub fn of_show(show: Result<(), ShowFault>) -> Ending
+    pub fn of_show(show: Result<(), ShowError>) -> Ending
         ensures { result ≡ ending_of_show show }
     {
         match show {
@@ -65,7 +65,7 @@ impl Ending {
     }
 
     /// The ending for this result of a drive.
-    pub fn of_drive(drive: Result<u8, DriveFault>) -> Ending
+    pub fn of_drive(drive: Result<u8, DriveError>) -> Ending
         ensures { result ≡ ending_of_drive drive }
     {
         match drive {
@@ -81,7 +81,7 @@ impl Ending {
     {
         match why.kind() {
             io::ErrorKind::InvalidData => Ending::NotText,
-            _ => Ending::Stopped(ScriptFault::Memory),
+            _ => Ending::Stopped(ScriptError::Memory),
         }
     }
 
@@ -107,7 +107,7 @@ impl Ending {
     /// Says on `errors` why it ends so: a line that begins with the program's name, or what the
     /// parser of command lines says. The system's reason stands on a line of its own after it. Says
     /// nothing if the request is done, or if a report says it.
-    pub fn tell<E: Write>(&self, errors: &mut E) -> io::Result<()>
+    pub fn report<E: Write>(&self, errors: &mut E) -> io::Result<()>
         ensures { OnOk result
             (IsReported self.now (E.contents errors.old) (E.contents errors.new)) }
     {
@@ -118,7 +118,7 @@ impl Ending {
             Ending::Unshown(fault) => write_fault(errors, fault, reason_of_show(fault)),
             Ending::Undriven(fault) => write_fault(errors, fault, reason_of_drive(fault)),
             Ending::Misused(text) => write_text(errors, text),
-            Ending::OutOfRange(fault) => write_line(errors, range(*fault)),
+            Ending::OutOfRange(fault) => write_line(errors, fault_text(*fault)),
             Ending::NotText => write_line(errors, "an argument isn't UTF-8"),
         }
     }
@@ -148,28 +148,28 @@ fn write_fault<E: Write, D: Display + Drop>(
 }
 
 // what the system said when a script stopped
-fn reason(fault: &ScriptFault) -> Option<&io::Error> {
+fn reason(fault: &ScriptError) -> Option<&io::Error> {
     match fault {
-        ScriptFault::Read(reason) => Some(reason),
-        ScriptFault::Write(reason) => Some(reason),
+        ScriptError::Read(reason) => Some(reason),
+        ScriptError::Write(reason) => Some(reason),
         _ => None,
     }
 }
 
 // what the system said when the showing of rows stopped
-fn reason_of_show(fault: &ShowFault) -> Option<&io::Error> {
+fn reason_of_show(fault: &ShowError) -> Option<&io::Error> {
     match fault {
-        ShowFault::Read(reason) => Some(reason),
-        ShowFault::Write(reason) => Some(reason),
+        ShowError::Read(reason) => Some(reason),
+        ShowError::Write(reason) => Some(reason),
         _ => None,
     }
 }
 
 // what the system said when a drive stopped
-fn reason_of_drive(fault: &DriveFault) -> Option<&io::Error> {
+fn reason_of_drive(fault: &DriveError) -> Option<&io::Error> {
     match fault {
-        DriveFault::Read(reason) => Some(reason),
-        DriveFault::Write(reason) => Some(reason),
+        DriveError::Read(reason) => Some(reason),
+        DriveError::Write(reason) => Some(reason),
         _ => None,
     }
 }

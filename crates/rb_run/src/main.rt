@@ -1,19 +1,19 @@
 //! The program: parses a command line, and runs a script, drives a broker or shows rows from
-//! standard input to standard output. Theorem: `doing::asked` reads, writes and ends as the words
-//! ask for. They ask for a script under the limits and in the way of their options, for a drive
-//! under these with so many subscribers and a database for the first one, for a message about the
-//! first faulty option, for rows in the form of their options, or for a text to print. The exit
-//! status and the message on standard error are those of the ending. A drive can show on standard
-//! error how far it is, where that is a terminal.
+//! standard input to standard output. Theorem: `runner::run_words` reads, writes and ends as the
+//! words ask for. They ask for a script under the limits and in the way of their options, for a
+//! drive under these with that number of subscribers and a database for the first one, for a
+//! message about the first faulty option, for rows in the form of their options, or for a text to
+//! print. The exit status and the message on standard error are those of the ending. A drive can
+//! show its progress on standard error, where that is a terminal.
 #![tactic(auto)]
 
 mod command;
-mod doing;
 mod ending;
 mod files;
 mod job;
 mod options;
 mod progress;
+mod runner;
 mod screen;
 
 ghost use Rattle.std.specs.Prelude.{◌≡◌, map, string_bytes, MatchResult, None};
@@ -21,9 +21,9 @@ ghost use Rattle.std.specs.IoError.{error_kind};
 ghost use Rattle.rb_run.specs.Endings.{ending_of_words};
 ghost use Rattle.rb_run.specs.Program.{EndsAsAsked};
 
-use doing::asked;
 use ending::Ending;
 use files::Files;
+use runner::run_words;
 use screen::{Output, Screen};
 use sqlite::{Connection, FileStore};
 use sqlite_std_file::File;
@@ -40,7 +40,7 @@ use std::{env, io};
 struct Streams {
     stdin: Stdin,
     stdout: Stdout,
-    // the same once more, for whoever has no buffer to put it in
+    // the same once more, for the case that there is no memory for a buffer around it
     spare: Stdout,
     stderr: Stderr,
 }
@@ -63,12 +63,12 @@ fn main(rt: HostRuntime) -> ExitCode {
         spare: rt.stdout(),
         stderr: rt.stderr(),
     };
-    let ending = run(&rt, rt.alloc(), words, streams);
+    let ending = run_command(&rt, rt.alloc(), words, streams);
     // if even this fails, nothing is left to do
     let _ = match BufWriter::new(rt.alloc(), rt.stderr()) {
-        Ok(mut errors) => ending.tell(&mut errors),
+        Ok(mut errors) => ending.report(&mut errors),
         // without a buffer the message goes out in parts
-        Err(_) => ending.tell(&mut rt.stderr()),
+        Err(_) => ending.report(&mut rt.stderr()),
     };
     ending.code()
 }
@@ -78,8 +78,8 @@ fn words_of(rt: &HostRuntime) -> io::Result<Vec<String>> {
     Ok(words)
 }
 
-// Does what the command line asks for, if its words can be had.
-fn run<T: Threads + Wait + Sync + Files + Clock>(
+// Runs what the command line asks for, if its words can be had.
+fn run_command<T: Threads + Wait + Sync + Files + Clock>(
     rt: &T,
     alloc: Global,
     words: io::Result<Vec<String>>,
@@ -90,13 +90,13 @@ fn run<T: Threads + Wait + Sync + Files + Clock>(
         (λ why. result ≡ ending_of_words (error_kind why)) }
 {
     match words {
-        Ok(words) => called(rt, alloc, &words, streams),
+        Ok(words) => run_on_streams(rt, alloc, &words, streams),
         Err(why) => Ending::of_words(&why),
     }
 }
 
-// Does what these words ask for, from standard input to standard output.
-fn called<T: Threads + Wait + Sync + Files + Clock>(
+// Runs what these words ask for, from standard input to standard output.
+fn run_on_streams<T: Threads + Wait + Sync + Files + Clock>(
     rt: &T,
     alloc: Global,
     words: &[String],
@@ -111,15 +111,15 @@ fn called<T: Threads + Wait + Sync + Files + Clock>(
         stderr,
     } = streams;
     let screen = Screen::new(stderr);
-    let mut spare = beside(rt, spare, &screen);
-    match BufWriter::with_capacity(alloc, 65_536, beside(rt, stdout, &screen)) {
-        Ok(mut writer) => asked(rt, alloc, words, &mut stdin, &mut writer, &screen),
+    let mut spare = new_output(rt, spare, &screen);
+    match BufWriter::with_capacity(alloc, 65_536, new_output(rt, stdout, &screen)) {
+        Ok(mut writer) => run_words(rt, alloc, words, &mut stdin, &mut writer, &screen),
         // without a buffer the answers go out in parts
-        Err(_) => asked(rt, alloc, words, &mut stdin, &mut spare, &screen),
+        Err(_) => run_words(rt, alloc, words, &mut stdin, &mut spare, &screen),
     }
 }
 
-// standard output beside this screen
-fn beside<'a, T: Wait>(rt: &'a T, stdout: Stdout, screen: &'a Screen) -> Output<'a, T> {
+// Standard output, which closes this screen before it writes.
+fn new_output<'a, T: Wait>(rt: &'a T, stdout: Stdout, screen: &'a Screen) -> Output<'a, T> {
     Output { rt, stdout, screen }
 }

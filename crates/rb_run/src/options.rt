@@ -5,8 +5,9 @@
 ghost use Rattle.std.specs.Prelude.{◌≡◌, option_map};
 ghost use Rattle.clap.specs.Words.{subcommand_rows_of};
 ghost use Rattle.rb_run.specs.Options.{answering_by, config_by, config_of, config_with};
-ghost use Rattle.rb_run.specs.Options.{drive_by, fault_text, form_by, given_by, is_called, is_set};
-ghost use Rattle.rb_run.specs.Options.{range_text, replica_by, value_of, watched_by, word_of};
+ghost use Rattle.rb_run.specs.Options.{drive_by, fault_text, form_by, given_by, is_set};
+ghost use Rattle.rb_run.specs.Options.{is_subcommand, range_text, replica_by, value_of};
+ghost use Rattle.rb_run.specs.Options.{watched_by, word_of};
 
 use clap::ArgMatches;
 use rb_core::{Config, ConfigFault};
@@ -21,7 +22,7 @@ pub fn config(found: &ArgMatches) -> Result<Config, ConfigFault>
     config_with(found, 1)
 }
 
-// the limits with so many appliers, the others from the options
+// the limits with this number of appliers, the others from the options
 fn config_with(found: &ArgMatches, appliers: u64) -> Result<Config, ConfigFault>
     ensures { result ≡ config_with (subcommand_rows_of found.now) appliers }
 {
@@ -60,7 +61,7 @@ pub fn drive(found: &ArgMatches) -> Result<(Config, u64), RangeFault>
 pub fn replica<'a>(found: &ArgMatches<'a>) -> Option<&'a str>
     ensures { option_map (λ path. path.now) result ≡ replica_by (subcommand_rows_of found.now) }
 {
-    given(found, "replica")
+    option_word(found, "replica")
 }
 
 /// Whether it is shown how far a drive is.
@@ -92,8 +93,8 @@ pub fn form(found: &ArgMatches) -> RowForm
 }
 
 /// Whether the subcommand has this name.
-pub fn called(found: &ArgMatches, name: &str) -> bool
-    ensures { result ≡ is_called (subcommand_rows_of found.now) name.now }
+pub fn is_subcommand(found: &ArgMatches, name: &str) -> bool
+    ensures { result ≡ is_subcommand (subcommand_rows_of found.now) name.now }
 {
     match found.subcommand() {
         None => false,
@@ -112,14 +113,14 @@ fn flag(found: &ArgMatches, name: &str) -> bool
 fn word<'a>(found: &ArgMatches<'a>, name: &str) -> &'a str
     ensures { result.now ≡ word_of (subcommand_rows_of found.now) name.now }
 {
-    match given(found, name) {
+    match option_word(found, name) {
         None => "",
         Some(word) => word,
     }
 }
 
 // the word of an option of the subcommand, if it has one
-fn given<'a>(found: &ArgMatches<'a>, name: &str) -> Option<&'a str>
+fn option_word<'a>(found: &ArgMatches<'a>, name: &str) -> Option<&'a str>
     ensures { option_map (λ word. word.now) result
         ≡ given_by (subcommand_rows_of found.now) name.now }
 {
@@ -160,16 +161,16 @@ fn value(word: &str) -> u64
 }
 
 /// The message about an option whose word isn't a number in its range.
-pub fn range(fault: RangeFault) -> &'static str
+pub fn fault_text(fault: RangeFault) -> &'static str
     ensures { result.now ≡ fault_text fault }
 {
     match fault {
-        RangeFault::Limit(fault) => limit_range(fault),
+        RangeFault::Limit(fault) => range_text(fault),
         RangeFault::Subscribers => "--subscribers takes a number from 1 to 16",
     }
 }
 
-fn limit_range(fault: ConfigFault) -> &'static str
+fn range_text(fault: ConfigFault) -> &'static str
     ensures { result.now ≡ range_text fault }
 {
     match fault {

@@ -13,7 +13,7 @@ const CLEARED: &str = "\r\x1b[K";
 #[derive(Drop)]
 pub struct Screen {
     errors: Stderr,
-    // Whether a line is there. Who writes one has the lock.
+    // Whether a line is there. A thread that writes one has the lock.
     is_shown: Mutex<bool>,
     // 1 once it is closed, else 0
     closed: AtomicU64,

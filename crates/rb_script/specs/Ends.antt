@@ -5,9 +5,9 @@ use Rattle.std.specs.Io.KnownBytes.{Appends, Consumes, IsAtEnd}
 use Rattle.rb_desk.specs.Limits.{Limits}
 use Rattle.rb_script.specs.declared.answering.Answering.{Answering}
 use Rattle.rb_script.specs.declared.answering.RefusedLine.{RefusedLine}
-use Rattle.rb_script.specs.declared.fault.ScriptFault.{ScriptFault}
-use Rattle.rb_script.specs.declared.fault.ScriptFault.TheVariants.{Read, Write, Endless, Memory}
-use Rattle.rb_script.specs.declared.fault.ScriptFault.TheVariants.{Refused}
+use Rattle.rb_script.specs.declared.fault.ScriptError.{ScriptError}
+use Rattle.rb_script.specs.declared.fault.ScriptError.TheVariants.{Read, Write, Endless, Memory}
+use Rattle.rb_script.specs.declared.fault.ScriptError.TheVariants.{Refused}
 use Rattle.rb_script.specs.Answering.{script_output, script_stop}
 use Rattle.rb_script.specs.Script.{lines_of, whole_lines}
 use Rattle.rb_script.specs.Streams.{AppendsFront}
@@ -66,7 +66,7 @@ IsStoppedAt how config line r0 r w0 w =
 -- lines so far. `Endless`: more was read than the limit, and the lines that end within it are
 -- answered. `Write` and `Memory`: a prefix of the answers is written. `Refused`: this line is the
 -- first that stops the script, and the answers up to its own are written.
-abbrev pub ScriptEnds : {A : Type 0} → Answering → Limits → Result A ScriptFault → Option (List ℕ)
+abbrev pub ScriptEnds : {A : Type 0} → Answering → Limits → Result A ScriptError → Option (List ℕ)
     → Option (List ℕ) → Option (List ℕ) → Option (List ℕ) → Type 0
 ScriptEnds how config (Ok done) r0 r w0 w = IsAnswered how config r0 r w0 w
 ScriptEnds how config (Err (Read why)) r0 r w0 w = IsReadInPart how config r0 r w0 w
@@ -76,12 +76,12 @@ ScriptEnds how config (Err Memory) r0 r w0 w = IsCutOff how config r0 r w0 w
 ScriptEnds how config (Err (Refused line)) r0 r w0 w = IsStoppedAt how config line r0 r w0 w
 
 -- a fault of the reader
-abbrev pub IsOfReader : ScriptFault → Type 0
+abbrev pub IsOfReader : ScriptError → Type 0
 IsOfReader (Read why) = Unit {0}
 IsOfReader fault = ⊥
 
 -- a fault while answers are written: of the writer, or out of memory
-abbrev pub IsOfAnswers : ScriptFault → Type 0
+abbrev pub IsOfAnswers : ScriptError → Type 0
 IsOfAnswers (Write why) = Unit {0}
 IsOfAnswers Memory = Unit {0}
 IsOfAnswers fault = ⊥

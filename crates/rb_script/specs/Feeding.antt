@@ -5,8 +5,8 @@ use Rattle.std.specs.Prelude.{Option, Some, None}
 use Rattle.std.specs.Io.KnownBytes.{Appends}
 use Rattle.rb_desk.specs.Limits.{Limits}
 use Rattle.rb_script.specs.declared.answering.Answering.{Answering}
-use Rattle.rb_script.specs.declared.fault.ScriptFault.{ScriptFault}
-use Rattle.rb_script.specs.declared.fault.ScriptFault.TheVariants.{Write, Memory, Refused}
+use Rattle.rb_script.specs.declared.fault.ScriptError.{ScriptError}
+use Rattle.rb_script.specs.declared.fault.ScriptError.TheVariants.{Write, Memory, Refused}
 use Rattle.rb_script.specs.Answering.{AnsweredLine, first_stop, output_for}
 use Rattle.rb_script.specs.Lines.{line_answer}
 use Rattle.rb_script.specs.Output.{ScriptPlace, byte_answer, place_after}
@@ -37,7 +37,7 @@ pub record AreFed (how : Answering) (config : Limits) (n : ℕ) (place : ScriptP
   pub counted : number ≡ n + length (fed_lines config place bytes)
 
 -- How answering lines stops, of which the first has number n.
-abbrev pub StopsIn : Answering → ℕ → List AnsweredLine → ScriptFault → Option (List ℕ)
+abbrev pub StopsIn : Answering → ℕ → List AnsweredLine → ScriptError → Option (List ℕ)
     → Option (List ℕ) → Type 0
 StopsIn how n lines (Write why) w0 w = AppendsFront w0 w (output_for how n lines)
 StopsIn how n lines Memory w0 w = AppendsFront w0 w (output_for how n lines)

@@ -4,9 +4,9 @@ use Rattle.std.specs.Prelude.{Option, Some, None, IfSome}
 use Rattle.std.specs.List.{concat}
 use Rattle.hex.specs.Hex.{encode_lower}
 use mathlib.Core.Path.{refl}
-use Rattle.rb_script.specs.declared.fault.ScriptFault.{ScriptFault}
-use Rattle.rb_script.specs.declared.fault.ScriptFault.TheVariants.{Read, Write, Endless, Memory}
-use Rattle.rb_script.specs.declared.fault.ScriptFault.TheVariants.{Refused}
+use Rattle.rb_script.specs.declared.fault.ScriptError.{ScriptError}
+use Rattle.rb_script.specs.declared.fault.ScriptError.TheVariants.{Read, Write, Endless, Memory}
+use Rattle.rb_script.specs.declared.fault.ScriptError.TheVariants.{Refused}
 use Rattle.rb_script.specs.Ends.{IsOfAnswers}
 
 -- pieces, one after another, in hexadecimal
@@ -33,7 +33,7 @@ GainsFront old new bs =
     IfSome old (λ xs. new ≡ Some (xs ++ take (known_length new - length xs) bs))
 
 -- There is one proof at most that a fault is one of answers, so a ghost field may say it.
-pub IsOfAnswers-prop : (fault : ScriptFault) → IsProp (IsOfAnswers fault)
+pub IsOfAnswers-prop : (fault : ScriptError) → IsProp (IsOfAnswers fault)
 IsOfAnswers-prop (Read why) = λ x y. absurd x
 IsOfAnswers-prop (Write why) = λ x y. refl
 IsOfAnswers-prop Endless = λ x y. absurd x

@@ -1,7 +1,7 @@
 //! Why a script stops before its end.
 
 ghost use Rattle.std.specs.Prelude.{◌≡◌};
-ghost use Rattle.rb_script.specs.declared.fault.ScriptFault.TheVariants.{Memory};
+ghost use Rattle.rb_script.specs.declared.fault.ScriptError.TheVariants.{Memory};
 
 use crate::answering::RefusedLine;
 use std::alloc::AllocError;
@@ -13,7 +13,7 @@ use thiserror::Error;
 /// answers is written, whose last one may be cut. After `Refused`, the answers up to that line's
 /// own are written.
 #[derive(Debug, Drop, Error)]
-pub enum ScriptFault {
+pub enum ScriptError {
     /// The reader failed.
     #[error("read fault")]
     Read(io::Error),
@@ -31,10 +31,10 @@ pub enum ScriptFault {
     Refused(RefusedLine),
 }
 
-impl From<AllocError> for ScriptFault {
+impl From<AllocError> for ScriptError {
     ghost from_gives = { λ _ e. e ≡ Memory };
 
-    fn from(_e: AllocError) -> ScriptFault {
-        ScriptFault::Memory
+    fn from(_e: AllocError) -> ScriptError {
+        ScriptError::Memory
     }
 }

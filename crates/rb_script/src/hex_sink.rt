@@ -13,7 +13,7 @@ ghost use Rattle.rb_script.specs.Sinks.{hex_of_pieces};
 ghost use Rattle.rb_script.specs.Streams.{AppendsFront};
 ghost use Rattle.rb_script.specs.Texts.{bytes_word};
 
-use crate::fault::ScriptFault;
+use crate::fault::ScriptError;
 use crate::piece_list::PieceList;
 use crate::streams::write_text;
 use cs_model::Changeset;
@@ -32,7 +32,7 @@ pub fn write_changeset<W: Write>(
     alloc: Global,
     changeset: &Changeset,
     writer: &mut W,
-) -> Result<(), ScriptFault>
+) -> Result<(), ScriptError>
     ensures ok { OnOk result (Appends (W.contents writer.old) (W.contents writer.new)
         (bytes_word (text_of changeset.now))) }
     ensures err { OnErr result (AppendsFront (W.contents writer.old) (W.contents writer.new)
@@ -55,7 +55,7 @@ pub fn write_changeset<W: Write>(
     match written {
         Ok(()) if empty => write_text(writer, b"-"),
         Ok(()) => Ok(()),
-        Err(WriteError::Memory) => Err(ScriptFault::Memory),
+        Err(WriteError::Memory) => Err(ScriptError::Memory),
         Err(WriteError::Sink) => match fault {
             Some(fault) => Err(fault),
             None => unreachable!(),
@@ -115,7 +115,7 @@ struct HexWriter<'a, W> {
     // whether no piece is written
     empty: bool,
     // why a piece failed
-    fault: Option<ScriptFault>,
+    fault: Option<ScriptError>,
 }
 
 impl<W: Write> HexWriter<'_, W> {
@@ -142,7 +142,7 @@ impl<W: Write> HexWriter<'_, W> {
     }
 }
 
-fn write_hex<W: Write>(alloc: Global, writer: &mut W, bytes: &[u8]) -> Result<(), ScriptFault>
+fn write_hex<W: Write>(alloc: Global, writer: &mut W, bytes: &[u8]) -> Result<(), ScriptError>
     ensures ok { OnOk result (Appends (W.contents writer.old) (W.contents writer.new)
         (encode_lower bytes.now)) }
     ensures err { OnErr result (AppendsFront (W.contents writer.old) (W.contents writer.new)

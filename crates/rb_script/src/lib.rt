@@ -21,7 +21,7 @@ mod texts;
 mod words;
 
 pub use answering::{Answering, RefusedLine};
-pub use fault::ScriptFault;
+pub use fault::ScriptError;
 pub use header::header_in;
 pub use lines::MOST_OF_LINE;
 pub use reading::parts;

@@ -63,7 +63,7 @@ fn answer_form(
     match form {
         None => Ok((text_line(alloc, "refused Line")?, stage)),
         Some(Form::Table(bytes)) => table(alloc, stage, &bytes),
-        Some(Form::Happens(event)) => happen(alloc, begin(alloc, config, stage)?, event),
+        Some(Form::Happens(event)) => answer_event(alloc, begin(alloc, config, stage)?, event),
         Some(Form::Entry(number)) => {
             let world = begin(alloc, config, stage)?;
             let text = entry(alloc, &world, number)?;
@@ -107,7 +107,11 @@ fn begin(alloc: Global, config: Config, stage: Stage) -> Result<World, AllocErro
     }
 }
 
-fn happen(alloc: Global, mut world: World, event: Event) -> Result<(LineAnswer, Stage), AllocError>
+fn answer_event(
+    alloc: Global,
+    mut world: World,
+    event: Event,
+) -> Result<(LineAnswer, Stage), AllocError>
     ensures { IfOk result (λ given. event_answer (outcome world event)
         ≡ (answer_text given.0, given.1)) }
 {

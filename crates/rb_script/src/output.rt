@@ -13,7 +13,7 @@ ghost use Rattle.rb_script.specs.Texts.{bytes_word};
 
 use crate::answer::LineAnswer;
 use crate::answering::{Answering, RefusedLine};
-use crate::fault::ScriptFault;
+use crate::fault::ScriptError;
 use crate::hex_sink::write_changeset;
 use crate::streams::{flush, write_text};
 use cs_model::{Changeset, Seq};
@@ -39,7 +39,7 @@ pub fn write_answer<W: Write>(
     number: u64,
     answer: &LineAnswer,
     writer: &mut W,
-) -> Result<(), ScriptFault>
+) -> Result<(), ScriptError>
     ensures ok { OnOk result (Appends (W.contents writer.old) (W.contents writer.new)
         (numbered_answer how number (answer_text answer.now))) }
     ensures err { OnErr result (AppendsFront (W.contents writer.old) (W.contents writer.new)
@@ -60,7 +60,7 @@ fn write_numbered_text<W: Write>(
     number: u64,
     answer: &[u8],
     writer: &mut W,
-) -> Result<(), ScriptFault>
+) -> Result<(), ScriptError>
     ensures ok { OnOk result (Appends (W.contents writer.old) (W.contents writer.new)
         (numbered_answer how number answer.now)) }
     ensures err { OnErr result (AppendsFront (W.contents writer.old) (W.contents writer.new)
@@ -81,7 +81,7 @@ fn write_combined<W: Write>(
     number: u64,
     changeset: &Changeset,
     writer: &mut W,
-) -> Result<(), ScriptFault>
+) -> Result<(), ScriptError>
     ensures ok { OnOk result (Appends (W.contents writer.old) (W.contents writer.new)
         (numbered_answer how number (line_of (found_changeset (Some changeset.now))))) }
     ensures err { OnErr result (AppendsFront (W.contents writer.old) (W.contents writer.new)
@@ -102,7 +102,7 @@ fn write_word<W: Write>(
     front: &[u8],
     changeset: &Changeset,
     writer: &mut W,
-) -> Result<(), ScriptFault>
+) -> Result<(), ScriptError>
     ensures ok { OnOk result (Appends (W.contents writer.old) (W.contents writer.new)
         (front.now ++ line_of (bytes_word (text_of changeset.now)))) }
     ensures err { OnErr result (AppendsFront (W.contents writer.old) (W.contents writer.new)
@@ -115,7 +115,7 @@ fn write_word<W: Write>(
 }
 
 /// A line that is refused or faulty, with its answer, without the answer's line end.
-pub fn refused(number: u64, line: Vec<u8>, answer: LineAnswer) -> RefusedLine
+pub fn refused_line(number: u64, line: Vec<u8>, answer: LineAnswer) -> RefusedLine
     requires { is_refusal (answer_text answer) ≡ true }
     ensures { result ≡ record {
       number = number;
@@ -124,12 +124,12 @@ pub fn refused(number: u64, line: Vec<u8>, answer: LineAnswer) -> RefusedLine
     } }
 {
     match answer {
-        LineAnswer::Text(text) => refused_text(number, line, text),
+        LineAnswer::Text(text) => refused_line_of_text(number, line, text),
         LineAnswer::Combined(_) => unreachable!(),
     }
 }
 
-fn refused_text(number: u64, line: Vec<u8>, text: Vec<u8>) -> RefusedLine
+fn refused_line_of_text(number: u64, line: Vec<u8>, text: Vec<u8>) -> RefusedLine
     ensures { result ≡ record {
       number = number;
       line = line.items;
@@ -152,7 +152,7 @@ fn write_numbered<W: Write>(
     number: u64,
     answer: &[u8],
     writer: &mut W,
-) -> Result<(), ScriptFault>
+) -> Result<(), ScriptError>
     ensures ok { OnOk result (Appends (W.contents writer.old) (W.contents writer.new)
         ((decimal number ++ codes " ") ++ answer.now)) }
     ensures err { OnErr result (AppendsFront (W.contents writer.old) (W.contents writer.new)
@@ -164,7 +164,7 @@ fn write_numbered<W: Write>(
 }
 
 #[tactic(auto, using(crate::proofs::endings::StreamLaws::fronts))]
-fn write_both<W: Write>(writer: &mut W, front: &[u8], text: &[u8]) -> Result<(), ScriptFault>
+fn write_both<W: Write>(writer: &mut W, front: &[u8], text: &[u8]) -> Result<(), ScriptError>
     ensures ok { OnOk result (Appends (W.contents writer.old) (W.contents writer.new)
         (front.now ++ text.now)) }
     ensures err { OnErr result (AppendsFront (W.contents writer.old) (W.contents writer.new)
@@ -176,12 +176,12 @@ fn write_both<W: Write>(writer: &mut W, front: &[u8], text: &[u8]) -> Result<(),
 }
 
 /// Flushes the writer.
-pub fn hand_on<W: Write>(writer: &mut W) -> Result<(), ScriptFault>
+pub fn flush_answers<W: Write>(writer: &mut W) -> Result<(), ScriptError>
     ensures kept { Keeps (W.contents writer.old) (W.contents writer.new) }
     ensures fault { IfErr result IsOfAnswers }
 {
     match flush(writer) {
         Ok(()) => Ok(()),
-        Err(why) => Err(ScriptFault::Write(why)),
+        Err(why) => Err(ScriptError::Write(why)),
     }
 }

@@ -30,17 +30,17 @@ fn form_of_parts(alloc: Global, words: &[&[u8]]) -> Result<Option<Form>, AllocEr
 {
     match words {
         [] => Ok(None),
-        [name] => Ok(alone(name)),
-        [name, word] => with_one(alloc, name, word),
+        [name] => Ok(form_of_name(name)),
+        [name, word] => form_with_word(alloc, name, word),
         [name, first, word] => match number(first) {
             None => Ok(None),
-            Some(n) => with_two(alloc, name, n, word),
+            Some(n) => form_with_two(alloc, name, n, word),
         },
         [_, _, _, _, ..] => Ok(None),
     }
 }
 
-fn alone(name: &[u8]) -> Option<Form>
+fn form_of_name(name: &[u8]) -> Option<Form>
     ensures { result ≡ one_word name.now }
 {
     if is(name, b"publisher") {
@@ -56,7 +56,7 @@ fn alone(name: &[u8]) -> Option<Form>
     }
 }
 
-fn with_one(alloc: Global, name: &[u8], word: &[u8]) -> Result<Option<Form>, AllocError>
+fn form_with_word(alloc: Global, name: &[u8], word: &[u8]) -> Result<Option<Form>, AllocError>
     ensures { IfOk result (λ form. form ≡ two_words name.now word.now) }
 {
     if is(name, b"table") {
@@ -64,11 +64,11 @@ fn with_one(alloc: Global, name: &[u8], word: &[u8]) -> Result<Option<Form>, All
     }
     match number(word) {
         None => Ok(None),
-        Some(n) => Ok(with_number(name, n)),
+        Some(n) => Ok(form_with_number(name, n)),
     }
 }
 
-fn with_number(name: &[u8], n: u64) -> Option<Form>
+fn form_with_number(name: &[u8], n: u64) -> Option<Form>
     ensures { result ≡ name_and_number name.now (Some n) }
 {
     if is(name, b"reset") {
@@ -104,7 +104,12 @@ fn with_number(name: &[u8], n: u64) -> Option<Form>
     }
 }
 
-fn with_two(alloc: Global, name: &[u8], n: u64, word: &[u8]) -> Result<Option<Form>, AllocError>
+fn form_with_two(
+    alloc: Global,
+    name: &[u8],
+    n: u64,
+    word: &[u8],
+) -> Result<Option<Form>, AllocError>
     ensures { IfOk result (λ form. form ≡ number_and_word name.now (Some n) word.now) }
 {
     if is(name, b"feed") {
@@ -117,15 +122,15 @@ fn with_two(alloc: Global, name: &[u8], n: u64, word: &[u8]) -> Result<Option<Fo
         };
     }
     if is(name, b"crash") {
-        return Ok(crash(n, word));
+        return Ok(form_of_crash(n, word));
     }
     match number(word) {
         None => Ok(None),
-        Some(m) => Ok(with_numbers(name, n, m)),
+        Some(m) => Ok(form_with_numbers(name, n, m)),
     }
 }
 
-fn crash(delivery: u64, word: &[u8]) -> Option<Form>
+fn form_of_crash(delivery: u64, word: &[u8]) -> Option<Form>
     ensures { result ≡ crash_form delivery word.now }
 {
     if is(word, b"0") {
@@ -143,7 +148,7 @@ fn crash(delivery: u64, word: &[u8]) -> Option<Form>
     }
 }
 
-fn with_numbers(name: &[u8], first: u64, last: u64) -> Option<Form>
+fn form_with_numbers(name: &[u8], first: u64, last: u64) -> Option<Form>
     ensures { result ≡ two_numbers name.now first (Some last) }
 {
     if is(name, b"take") {

@@ -11,9 +11,9 @@ ghost use Rattle.rb_script.specs.Feeding.{AreFed, StopsIn, fed_lines, line_at};
 ghost use Rattle.rb_script.specs.Ends.{ScriptEnds};
 
 use crate::answering::Answering;
-use crate::fault::ScriptFault;
+use crate::fault::ScriptError;
 use crate::lines::{MOST_OF_LINE, Stage, answer};
-use crate::output::{hand_on, refused, refuses, write_answer};
+use crate::output::{flush_answers, refused_line, refuses, write_answer};
 use crate::streams::read_some;
 use cs_model::Schema;
 use rb_core::Config;
@@ -57,18 +57,18 @@ pub fn run_script<R: Read, W: Write>(
     writer: &mut W,
     config: Config,
     how: Answering,
-) -> Result<(), ScriptFault>
+) -> Result<(), ScriptError>
     // The output is the answers to the input: to all of it or, after a fault, to as much as the
     // fault allows.
     ensures { ScriptEnds how config result (R.remaining reader.old) (R.remaining reader.new)
         (W.contents writer.old) (W.contents writer.new) }
 {
     let answered = answer_all(alloc, reader, writer, config, how);
-    let handed_on = hand_on(writer);
+    let flushed = flush_answers(writer);
     match answered {
-        Ok(()) => handed_on,
-        Err(ScriptFault::Refused(line)) => match handed_on {
-            Ok(()) => Err(ScriptFault::Refused(line)),
+        Ok(()) => flushed,
+        Err(ScriptError::Refused(line)) => match flushed {
+            Ok(()) => Err(ScriptError::Refused(line)),
             Err(fault) => Err(fault),
         },
         Err(fault) => Err(fault),
@@ -82,7 +82,7 @@ fn answer_all<R: Read, W: Write>(
     writer: &mut W,
     config: Config,
     how: Answering,
-) -> Result<(), ScriptFault>
+) -> Result<(), ScriptError>
     ensures { ScriptEnds how config result (R.remaining reader.old) (R.remaining reader.new)
         (W.contents writer.old) (W.contents writer.new) }
 {
@@ -92,10 +92,10 @@ fn answer_all<R: Read, W: Write>(
     let mut count = 0;
     for _ in 0..=MOST_OF_SCRIPT {
         // the caller has its answers before the next read waits
-        hand_on(writer)?;
+        flush_answers(writer)?;
         let read = match read_some(reader, piece) {
             Ok(read) => read,
-            Err(why) => return Err(ScriptFault::Read(why)),
+            Err(why) => return Err(ScriptError::Read(why)),
         };
         if read == 0 {
             answer_line(alloc, config, how, place, writer)?;
@@ -104,7 +104,7 @@ fn answer_all<R: Read, W: Write>(
         if MOST_OF_SCRIPT - count < read {
             let within = &piece[..MOST_OF_SCRIPT - count];
             feed(alloc, config, how, place, within, writer)?;
-            return Err(ScriptFault::Endless);
+            return Err(ScriptError::Endless);
         }
         place = feed(alloc, config, how, place, &piece[..read], writer)?;
         count += read;
@@ -139,7 +139,7 @@ fn feed<W: Write>(
     place: Place,
     bytes: &[u8],
     writer: &mut W,
-) -> Result<Place, ScriptFault>
+) -> Result<Place, ScriptError>
     requires { place.number + length bytes.now < 2 ^ 64 }
     ensures ok { IfOk result (λ next. AreFed how config place.number
         (place_at place.stage place.line.items) bytes.now
@@ -177,7 +177,7 @@ fn answer_line<W: Write>(
     how: Answering,
     place: Place,
     writer: &mut W,
-) -> Result<Place, ScriptFault>
+) -> Result<Place, ScriptError>
     requires { place.number + 1 < 2 ^ 64 }
     ensures ok { IfOk result (λ next. (stops_after how
         (line_at config (place_at place.stage place.line.items)) ≡ false)
@@ -198,7 +198,7 @@ fn answer_line<W: Write>(
     let (given, stage) = answer(alloc, config, stage, &line)?;
     write_answer(alloc, how, number, &given, writer)?;
     if how.strict && refuses(&given) {
-        return Err(ScriptFault::Refused(refused(number, line, given)));
+        return Err(ScriptError::Refused(refused_line(number, line, given)));
     }
     line.clear();
     Ok(Place {

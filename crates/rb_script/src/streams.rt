@@ -5,7 +5,7 @@ ghost use Rattle.std.specs.Io.KnownBytes.{Appends, Consumes, Keeps, IsAtEnd};
 ghost use Rattle.rb_script.specs.Ends.{IsOfAnswers};
 ghost use Rattle.rb_script.specs.Streams.{AppendsFront};
 
-use crate::fault::ScriptFault;
+use crate::fault::ScriptError;
 use std::io;
 use std::io::{ErrorKind, Read, Write};
 
@@ -48,7 +48,7 @@ pub fn write_whole<W: Write>(writer: &mut W, bytes: &[u8]) -> io::Result<()>
 }
 
 /// Writes all bytes of an answer. An `Err` has written a prefix of them.
-pub fn write_text<W: Write>(writer: &mut W, text: &[u8]) -> Result<(), ScriptFault>
+pub fn write_text<W: Write>(writer: &mut W, text: &[u8]) -> Result<(), ScriptError>
     ensures ok { OnOk result (Appends (W.contents writer.old) (W.contents writer.new) text.now) }
     ensures err { OnErr result (AppendsFront (W.contents writer.old) (W.contents writer.new)
         text.now) }
@@ -56,7 +56,7 @@ pub fn write_text<W: Write>(writer: &mut W, text: &[u8]) -> Result<(), ScriptFau
 {
     match write_whole(writer, text) {
         Ok(()) => Ok(()),
-        Err(why) => Err(ScriptFault::Write(why)),
+        Err(why) => Err(ScriptError::Write(why)),
     }
 }
 

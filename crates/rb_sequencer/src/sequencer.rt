@@ -8,7 +8,7 @@ ghost use Rattle.rb_sequencer.specs.Turns.{IsTurn, PlacesHand, FillsHand, in_han
 ghost use Rattle.rb_sequencer.specs.Turns.{items_placed, token_of};
 
 use crate::turn::Turn;
-use rb_broker::{Broker, Hall, PlaceRefusal, RefusedItem};
+use rb_broker::{Broker, BrokerBrand, PlaceError, RefusedItem};
 use rb_intake::{NothingWaits, SequencerPass};
 use rb_sequence::{Item, Told};
 use rb_subscriber::Stake;
@@ -18,14 +18,14 @@ use std::sync::Wait;
 
 /// The sequencer of a broker. It is of one thread. A broker has one: there is one pass for it.
 #[derive(Drop)]
-pub struct Sequencer<L: Hall> {
+pub struct Sequencer<L: BrokerBrand> {
     pass: SequencerPass,
     hand: Option<Item>,
     told: Vec<Told>,
     stake: Stake<L>,
 }
 
-impl<L: Hall> Model for Sequencer<L> {
+impl<L: BrokerBrand> Model for Sequencer<L> {
     ghost use Rattle.std.specs.Prelude.{◌≡◌, ◌++◌, [], ℕ};
     ghost use Rattle.rb_sequence.specs.Items.{CountsUp};
     ghost use Rattle.rb_sequence.specs.Cells.{AreInCells};
@@ -47,7 +47,7 @@ impl<L: Hall> Model for Sequencer<L> {
         × (s.pass.ended ≡ []) };
 }
 
-impl<L: Hall> Sequencer<L> {
+impl<L: BrokerBrand> Sequencer<L> {
     /// The sequencer of the broker that `Broker::start` made with this pass and this stake.
     pub fn new(alloc: Global, pass: SequencerPass, stake: Stake<L>) -> Sequencer<L>
         requires { pass ≡ record { queue = L.queue; pulled = []; ended = [] } }
@@ -134,7 +134,7 @@ impl<L: Hall> Sequencer<L> {
         ensures { PlacesHand L.limits L.cells self.old self.new result }
     {
         if self.told.reserve(1).is_err() {
-            return Turn::Refused(PlaceRefusal::Memory);
+            return Turn::Refused(PlaceError::Memory);
         }
         let number = self.told.len() as u64 + 1;
         let item = self.hand.take().unwrap();

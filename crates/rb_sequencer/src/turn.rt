@@ -1,6 +1,6 @@
 //! `Turn`: what one turn of the sequencer did.
 
-use rb_broker::PlaceRefusal;
+use rb_broker::PlaceError;
 use rb_intake::NothingWaits;
 use rb_sequence::Told;
 
@@ -14,5 +14,5 @@ pub enum Turn {
     /// it was, after all that the sequencer has pulled.
     Idle(NothingWaits),
     /// The item isn't placed, and why.
-    Refused(PlaceRefusal),
+    Refused(PlaceError),
 }

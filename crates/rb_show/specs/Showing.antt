@@ -2,8 +2,8 @@
 use Rattle.std.specs.Prelude.{◌≡◌, ℕ, List, Option, Some, None, Result, Ok, Err}
 use Rattle.std.specs.Io.KnownBytes.{Appends, Consumes, IsAtEnd, Keeps}
 use Rattle.rb_show.specs.declared.row_form.RowForm.{RowForm}
-use Rattle.rb_show.specs.declared.show_fault.ShowFault.{ShowFault}
-use Rattle.rb_show.specs.declared.show_fault.ShowFault.TheVariants.{Read, Write, Row, Memory}
+use Rattle.rb_show.specs.declared.show_fault.ShowError.{ShowError}
+use Rattle.rb_show.specs.declared.show_fault.ShowError.TheVariants.{Read, Write, Row, Memory}
 use Rattle.rb_show.specs.Shown.{rows_shown}
 use Rattle.rb_script.specs.Streams.{AppendsFront}
 
@@ -34,7 +34,7 @@ IsShownInPart form r0 r w0 w =
 -- first row that can't be read. `Read`: nothing is written. `Write`: the input is read to its end,
 -- and a prefix of what it shows is written. `Memory`: a prefix of what the input so far shows is
 -- written.
-abbrev pub ShowEnds : {A : Type 0} → RowForm → Result A ShowFault → Option (List ℕ)
+abbrev pub ShowEnds : {A : Type 0} → RowForm → Result A ShowError → Option (List ℕ)
     → Option (List ℕ) → Option (List ℕ) → Option (List ℕ) → Type 0
 ShowEnds form (Ok done) r0 r w0 w = IsShownWhole form None r0 r w0 w
 ShowEnds form (Err (Read why)) r0 r w0 w = IsUnread r0 r w0 w
@@ -43,7 +43,7 @@ ShowEnds form (Err (Row n)) r0 r w0 w = IsShownWhole form (Some n) r0 r w0 w
 ShowEnds form (Err Memory) r0 r w0 w = IsShownInPart form r0 r w0 w
 
 -- How lines that are read already are shown, by the result.
-abbrev pub ShowsLines : {A : Type 0} → Result A ShowFault → List ℕ × Option ℕ → Option (List ℕ)
+abbrev pub ShowsLines : {A : Type 0} → Result A ShowError → List ℕ × Option ℕ → Option (List ℕ)
     → Option (List ℕ) → Type 0
 ShowsLines (Ok done) given w0 w = IsShown given None w0 w
 ShowsLines (Err (Read why)) given w0 w = ⊥

@@ -7,8 +7,8 @@ use Rattle.cs_model.specs.declared.value.Field.{Field}
 use Rattle.cs_model.specs.declared.value.Field.TheVariants.{Undefined, Is}
 use Rattle.cs_model.specs.declared.value.Value.{Value}
 use Rattle.cs_model.specs.Row.{values_of}
-use Rattle.rb_show.specs.declared.show_fault.ShowFault.{ShowFault}
-use Rattle.rb_show.specs.declared.show_fault.ShowFault.TheVariants.{Read, Write, Row, Memory}
+use Rattle.rb_show.specs.declared.show_fault.ShowError.{ShowError}
+use Rattle.rb_show.specs.declared.show_fault.ShowError.TheVariants.{Read, Write, Row, Memory}
 use Rattle.rb_show.specs.declared.tables.NamedRow.{NamedRow}
 use Rattle.rb_show.specs.declared.tables.TableList.{TableList}
 use Rattle.rb_show.specs.Shown.{ShownTables, literal, tables_at, value_data}
@@ -51,7 +51,7 @@ abbrev pub IsLineBad : Option (List ℕ × ShownTables) → Option (List ℕ) �
 IsLineBad None w0 w = Keeps w0 w
 IsLineBad (Some given) w0 w = ⊥
 
-abbrev pub ShowsLine : {A : Type 0} → Result A ShowFault → ℕ → Option (List ℕ × ShownTables)
+abbrev pub ShowsLine : {A : Type 0} → Result A ShowError → ℕ → Option (List ℕ × ShownTables)
     → ShownTables → Option (List ℕ) → Option (List ℕ) → Type 0
 ShowsLine (Ok done) number given tables w0 w = IsLineShown given tables w0 w
 ShowsLine (Err (Read why)) number given tables w0 w = ⊥
@@ -60,12 +60,12 @@ ShowsLine (Err (Row n)) number given tables w0 w = (n ≡ number) × IsLineBad g
 ShowsLine (Err Memory) number given tables w0 w = IsLineCut given w0 w
 
 -- a fault while the input is read: of the reader, or out of memory
-abbrev pub IsOfInput : ShowFault → Type 0
+abbrev pub IsOfInput : ShowError → Type 0
 IsOfInput (Read why) = Unit {0}
 IsOfInput Memory = Unit {0}
 IsOfInput fault = ⊥
 
 -- a fault of the writer
-abbrev pub IsOfOutput : ShowFault → Type 0
+abbrev pub IsOfOutput : ShowError → Type 0
 IsOfOutput (Write why) = Unit {0}
 IsOfOutput fault = ⊥

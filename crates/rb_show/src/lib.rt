@@ -10,5 +10,5 @@ mod showing;
 mod tables;
 
 pub use row_form::RowForm;
-pub use show_fault::ShowFault;
+pub use show_fault::ShowError;
 pub use showing::show;

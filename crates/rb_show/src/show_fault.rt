@@ -1,7 +1,7 @@
 //! Why `show` stops before its end.
 
 ghost use Rattle.std.specs.Prelude.{◌≡◌};
-ghost use Rattle.rb_show.specs.declared.show_fault.ShowFault.TheVariants.{Memory};
+ghost use Rattle.rb_show.specs.declared.show_fault.ShowError.TheVariants.{Memory};
 
 use std::alloc::AllocError;
 use std::io;
@@ -11,7 +11,7 @@ use thiserror::Error;
 /// After `Row`, all rows of the lines before it are written. After `Write` and `Memory`, a prefix
 /// of the rows is written, whose last one may be cut.
 #[derive(Debug, Drop, Error)]
-pub enum ShowFault {
+pub enum ShowError {
     /// The reader failed.
     #[error("read fault")]
     Read(io::Error),
@@ -26,10 +26,10 @@ pub enum ShowFault {
     Memory,
 }
 
-impl From<AllocError> for ShowFault {
+impl From<AllocError> for ShowError {
     ghost from_gives = { λ _ e. e ≡ Memory };
 
-    fn from(_e: AllocError) -> ShowFault {
-        ShowFault::Memory
+    fn from(_e: AllocError) -> ShowError {
+        ShowError::Memory
     }
 }

@@ -11,7 +11,7 @@ ghost use Rattle.rb_show.specs.ShownTexts.{named_row, tables_seen};
 use crate::literals::line_of_literals;
 use crate::objects::line_of_object;
 use crate::row_form::RowForm;
-use crate::show_fault::ShowFault;
+use crate::show_fault::ShowError;
 use crate::tables::{NamedRow, TableList, row_alone_in};
 use rb_script::{flush, is, parts, write_whole};
 use std::alloc::{AllocError, Global};
@@ -32,7 +32,7 @@ pub fn show<R: Read, W: Write>(
     reader: &mut R,
     writer: &mut W,
     form: RowForm,
-) -> Result<(), ShowFault>
+) -> Result<(), ShowError>
     ensures { ShowEnds form result (R.remaining reader.old) (R.remaining reader.new)
         (W.contents writer.old) (W.contents writer.new) }
 {
@@ -41,7 +41,7 @@ pub fn show<R: Read, W: Write>(
 }
 
 // all that the reader has left
-fn input_of<R: Read>(alloc: Global, reader: &mut R) -> Result<Vec<u8>, ShowFault>
+fn input_of<R: Read>(alloc: Global, reader: &mut R) -> Result<Vec<u8>, ShowError>
     ensures ok { IfOk result (λ input. Consumes (R.remaining reader.old) (R.remaining reader.new)
         input.items) }
     ensures end { IfOk result (λ input. IsAtEnd (R.remaining reader.new)) }
@@ -52,8 +52,8 @@ fn input_of<R: Read>(alloc: Global, reader: &mut R) -> Result<Vec<u8>, ShowFault
     let mut input = Vec::new(alloc);
     match reader.read_to_end(&mut input) {
         Ok(_) => Ok(input),
-        Err(why) if why.kind() == ErrorKind::OutOfMemory => Err(ShowFault::Memory),
-        Err(why) => Err(ShowFault::Read(why)),
+        Err(why) if why.kind() == ErrorKind::OutOfMemory => Err(ShowError::Memory),
+        Err(why) => Err(ShowError::Read(why)),
     }
 }
 
@@ -62,16 +62,16 @@ fn show_input<W: Write>(
     form: RowForm,
     input: &[u8],
     writer: &mut W,
-) -> Result<(), ShowFault>
+) -> Result<(), ShowError>
     ensures { ShowsLines result (rows_shown form input.now) (W.contents writer.old)
         (W.contents writer.new) }
 {
     let shown = show_all(alloc, form, input, writer);
-    let handed_out = hand_out(writer);
+    let flushed = flush_rows(writer);
     match shown {
-        Ok(()) => handed_out,
-        Err(ShowFault::Row(number)) => match handed_out {
-            Ok(()) => Err(ShowFault::Row(number)),
+        Ok(()) => flushed,
+        Err(ShowError::Row(number)) => match flushed {
+            Ok(()) => Err(ShowError::Row(number)),
             Err(fault) => Err(fault),
         },
         Err(fault) => Err(fault),
@@ -84,7 +84,7 @@ fn show_all<W: Write>(
     form: RowForm,
     input: &[u8],
     writer: &mut W,
-) -> Result<(), ShowFault>
+) -> Result<(), ShowError>
     ensures { ShowsLines result (rows_shown form input.now) (W.contents writer.old)
         (W.contents writer.new) }
 {
@@ -103,7 +103,7 @@ fn show_lines<W: Write>(
     form: RowForm,
     lines: &[&[u8]],
     writer: &mut W,
-) -> Result<(), ShowFault>
+) -> Result<(), ShowError>
     ensures { ShowsLines result
         (lines_shown form (tables_at [] []) 1 (map (λ line. line.now) lines.now))
         (W.contents writer.old) (W.contents writer.new) }
@@ -123,7 +123,7 @@ fn show_line<W: Write>(
     number: u64,
     line: &[u8],
     writer: &mut W,
-) -> Result<(), ShowFault>
+) -> Result<(), ShowError>
     ensures { ShowsLine result number (line_shown form (tables_seen tables.old) line.now)
         (tables_seen tables.new) (W.contents writer.old) (W.contents writer.new) }
 {
@@ -133,10 +133,10 @@ fn show_line<W: Write>(
     };
     if is(name, b"row") {
         let Some(changeset) = tables.row(alloc, rest)? else {
-            return Err(ShowFault::Row(number));
+            return Err(ShowError::Row(number));
         };
         return match row_alone_in(&changeset) {
-            None => Err(ShowFault::Row(number)),
+            None => Err(ShowError::Row(number)),
             Some(row) => show_row(alloc, form, &row, writer),
         };
     }
@@ -151,14 +151,14 @@ fn show_row<W: Write>(
     form: RowForm,
     row: &NamedRow,
     writer: &mut W,
-) -> Result<(), ShowFault>
+) -> Result<(), ShowError>
     ensures { ShowsLines result (row_line form (named_row row.now), None) (W.contents writer.old)
         (W.contents writer.new) }
 {
     let line = line_of_row(alloc, form, row)?;
     match write_whole(writer, &line) {
         Ok(()) => Ok(()),
-        Err(why) => Err(ShowFault::Write(why)),
+        Err(why) => Err(ShowError::Write(why)),
     }
 }
 
@@ -172,12 +172,12 @@ fn line_of_row(alloc: Global, form: RowForm, row: &NamedRow) -> Result<Vec<u8>, 
 }
 
 // Flushes the writer.
-fn hand_out<W: Write>(writer: &mut W) -> Result<(), ShowFault>
+fn flush_rows<W: Write>(writer: &mut W) -> Result<(), ShowError>
     ensures kept { Keeps (W.contents writer.old) (W.contents writer.new) }
     ensures fault { IfErr result IsOfOutput }
 {
     match flush(writer) {
         Ok(()) => Ok(()),
-        Err(why) => Err(ShowFault::Write(why)),
+        Err(why) => Err(ShowError::Write(why)),
     }
 }

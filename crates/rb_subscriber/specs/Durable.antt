@@ -96,7 +96,7 @@ IfStoreUnasked other P = Unit {0}
 -- What is pending over a subscription with this cursor, base, tokens and tables: the entries after
 -- the cursor, one at least, as the cells show them, and changes of rows that fit, each of another
 -- key. The changes leave what the group of the entries leaves. If all changesets apply one after
--- another without conflict, they leave what that gives.
+-- another without conflict, they leave the result of that.
 pub record IsPendingOver (cells : Cells) (cursor : ℕ) (base : TableState) (told : List CellToken)
     (tables : TableState) (pending : PendingAccept) : Type 0 where
   pub shown : AreInCells cells (suc cursor) pending.tokens

@@ -41,7 +41,7 @@ pub fn accepted_is_a_run()
 {}
 
 /// If the changesets of an accepted delivery, applied one after another, don't conflict, the tables
-/// after it are what that gives. The changesets are valid, and the rows have their columns, as
+/// after it are the result of that. The changesets are valid, and the rows have their columns, as
 /// those of entries and of `Tables` do.
 pub fn accepted_apply_singly()
     ensures { (old : Endpoint) (entries : List Entry) (delivery : Delivery) (new : Endpoint)

@@ -1,7 +1,7 @@
 //! A subscriber's endpoint of a subscription. Theorem: an `Endpoint` accepts only the next run of
 //! the sequence after its cursor, under its current link, and nothing once it is closed or has
 //! fallen. Where the accepted changesets apply one after another without conflict, its tables are
-//! what that gives. A `Subscription` can accept into a durable store: after a crash the store has
+//! the result of that. A `Subscription` can accept into a durable store: after a crash the store has
 //! the rows and the cursor from before a delivery, or those after it.
 #![tactic(auto)]
 

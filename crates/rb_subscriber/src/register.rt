@@ -1,9 +1,12 @@
 //! `Register`: what only a broker's lock holds. It makes subscriptions, counts their steps and sets
 //! their links.
 
-ghost use Rattle.std.specs.Prelude.{◌≡◌, ◌+◌, ◌<◌, ◌^◌, length, IfErr, IfOk, OnErr};
+ghost use Rattle.std.specs.Prelude.{◌≡◌, ◌+◌, ◌<◌, ◌≤◌, ◌^◌, [], length, IfErr, IfOk, OnErr, OnOk};
+ghost use mathlib.Core.List.{IsPrefix};
 ghost use Rattle.rb_subscriber.specs.Lost.{FitsLost, gone_on};
-ghost use Rattle.rb_subscriber.specs.Register.{AuditorState, RegisterState, all_steps};
+ghost use Rattle.rb_subscriber.specs.Owner.{OthersSince};
+ghost use Rattle.rb_subscriber.specs.Register.{AuditorState, HaveSeenTheirs, RegisterState};
+ghost use Rattle.rb_subscriber.specs.Register.{all_steps};
 ghost use Rattle.rb_subscriber.specs.Subscription.{new_subscription};
 
 use crate::batches::Batches;
@@ -14,6 +17,8 @@ use crate::stake::Stake;
 use crate::step_ledger::StepLedger;
 use crate::subscription::Subscription;
 use cs_apply::Tables;
+use rb_desk::Step;
+use rb_history::{Chronicle, Front};
 use std::alloc::Global;
 use std::marker::Model;
 use std::sync::ledger::{Blank, Book, Share};
@@ -22,8 +27,8 @@ use std::sync::ledger::{Blank, Book, Share};
 pub const MOST_SUBSCRIPTIONS: u64 = 1_024;
 
 /// The register of a broker's subscriptions: the book of the ledger of their steps, and the parts
-/// of the ledger that no subscription has yet. There is one for each ledger, so who has none can't
-/// make a subscription, count a step or set a link.
+/// of the ledger that no subscription has yet. Each ledger has one. Only its owner can make a
+/// subscription, count a step or set a link.
 #[derive(Drop)]
 pub struct Register<L: StepLedger> {
     book: Book<L>,
@@ -43,12 +48,14 @@ impl<L: StepLedger> Model for Register<L> {
         × (r.rest.amount ≡ 0) × (r.book.total < 2 ^ 64) };
 }
 
-/// Hears the subscriptions of a register, and adds up their steps. One that was heard is gone.
+/// Hears the subscriptions of a register, and adds up their steps. One that was heard is gone. The
+/// auditor has seen the history of the broker's steps as it was at its last audit.
 #[derive(Drop)]
 pub struct Auditor<L: StepLedger> {
     sum: u64,
     heard: u64,
     share: Share<L>,
+    seen: Front<Step>,
 }
 
 impl<L: StepLedger> Model for Auditor<L> {
@@ -57,9 +64,10 @@ impl<L: StepLedger> Model for Auditor<L> {
 
     ghost Value = { AuditorState };
 
-    ghost view = { λ a. record { sum = a.sum; heard = a.heard } };
+    ghost view = { λ a. record { sum = a.sum; heard = a.heard; seen = a.seen.log } };
 
-    ghost invariant = { λ a. (a.share.parts ≡ a.heard) × (a.share.amount ≡ a.sum) };
+    ghost invariant = { λ a. (a.share.parts ≡ a.heard) × (a.share.amount ≡ a.sum)
+        × (a.seen.name ≡ L.history) };
 }
 
 /// Why `Register::audit` counts nothing: a subscription is missing. These come back as they were.
@@ -70,10 +78,13 @@ pub struct Missing<L: StepLedger> {
 
 impl<L: StepLedger> Register<L> {
     /// The register of a new ledger, with no subscription and no step, and its auditor.
-    pub fn open(blank: Blank) -> (Register<L>, Auditor<L>)
+    pub fn open(blank: Blank, all: &mut Chronicle<Step>) -> (Register<L>, Auditor<L>)
         requires name { blank.name ≡ L.name }
         requires parts { (blank.parts ≡ L.parts) × (L.all ≡ L.parts) }
-        ensures { result ≡ (record { total = 0; made = 0 }, record { sum = 0; heard = 0 }) }
+        requires history { (all.old.name ≡ L.history) × (all.old.log ≡ []) }
+        ensures register { result.0 ≡ record { total = 0; made = 0 } }
+        ensures auditor { result.1 ≡ record { sum = 0; heard = 0; seen = [] } }
+        ensures same { all.new ≡ all.old }
     {
         let (book, mut rest) = blank.open::<L>();
         let share = rest.empty();
@@ -86,6 +97,7 @@ impl<L: StepLedger> Register<L> {
             sum: 0,
             heard: 0,
             share,
+            seen: all.front(),
         };
         (register, auditor)
     }
@@ -157,47 +169,63 @@ impl<L: StepLedger> Register<L> {
     }
 
     /// Hears these subscriptions, which are gone then. Returns how many steps were counted in all:
-    /// it is the sum of the steps of all subscriptions that the auditor heard.
+    /// it is the sum of the steps of all subscriptions that the auditor heard. Each had seen all of
+    /// its own steps in this history, which the auditor has seen then.
     ///
     /// Returns `Missing` if the auditor has not heard all that were made, with these. Nothing is
-    /// heard then.
+    /// heard then, but the auditor has seen the history.
     pub fn audit(
         &mut self,
         auditor: &mut Auditor<L>,
         subscriptions: Vec<Subscription<L>>,
+        all: &mut Chronicle<Step>,
     ) -> Result<u64, Missing<L>>
         requires all { L.all ≡ 1024 }
+        requires name { all.old.name ≡ L.history }
         ensures total { IfOk result (λ sum. (sum ≡ self.old.total)
             × (sum ≡ auditor.old.sum + all_steps subscriptions.items)) }
         ensures heard { IfOk result (λ sum.
-            (auditor.new ≡ record { sum = sum; heard = self.old.made })
+            (auditor.new ≡ record { sum = sum; heard = self.old.made; seen = all.old.log })
             × (auditor.old.heard + length subscriptions.items ≡ self.old.made)) }
+        ensures own { OnOk result (HaveSeenTheirs subscriptions.items all.old.log) }
+        ensures seen { IsPrefix auditor.old.seen all.old.log }
         ensures missing { IfErr result (λ missing.
             (missing.subscriptions.items ≡ subscriptions.items)
             × (auditor.old.heard + length subscriptions.items ≡ self.old.made → ⊥)) }
-        ensures err { OnErr result (auditor.new ≡ auditor.old) }
-        ensures same { self.new ≡ self.old }
+        ensures err { OnErr result (auditor.new ≡ record auditor.old { seen = all.old.log }) }
+        ensures same { (self.new ≡ self.old) × (all.new ≡ all.old) }
     {
+        all.admit(&auditor.seen);
+        auditor.seen = all.front();
         let given = subscriptions.len() as u64;
         if self.made.checked_sub(auditor.heard) != Some(given) {
             return Err(Missing { subscriptions });
         }
         for subscription in subscriptions {
-            self.hear(auditor, subscription);
+            self.hear(auditor, subscription, all);
         }
         self.compare(auditor);
         Ok(auditor.sum)
     }
 
-    // adds the steps of a subscription to the auditor's sum
-    fn hear(&mut self, auditor: &mut Auditor<L>, subscription: Subscription<L>)
+    // adds the steps of a subscription, which are all in this history, to the auditor's sum
+    fn hear(
+        &mut self,
+        auditor: &mut Auditor<L>,
+        subscription: Subscription<L>,
+        all: &mut Chronicle<Step>,
+    )
         requires more { auditor.old.heard < self.old.made }
-        ensures auditor { auditor.new ≡ record {
+        requires name { all.old.name ≡ L.history }
+        ensures auditor { auditor.new ≡ record auditor.old {
           sum = auditor.old.sum + subscription.steps;
           heard = auditor.old.heard + 1;
         } }
-        ensures same { self.new ≡ self.old }
+        ensures own { OthersSince subscription.owner all.old.log }
+        ensures same { (self.new ≡ self.old) × (all.new ≡ all.old) }
     {
+        let mut subscription = subscription;
+        subscription.catch_up(all);
         let Subscription { steps, share, .. } = subscription;
         auditor.share.merge(share);
         self.book.audit(&mut auditor.share);
@@ -223,6 +251,17 @@ impl<L: StepLedger> Register<L> {
 }
 
 impl<L: StepLedger> Auditor<L> {
+    /// Of an auditor and an owner of one broker, what the one has seen is a beginning of what the
+    /// other has (`Stake::compare`).
+    pub fn compare(&self, owner: &Stake<L>)
+        ensures less { length self.now.seen ≤ length owner.now.seen
+            → IsPrefix self.now.seen owner.now.seen }
+        ensures more { length owner.now.seen ≤ length self.now.seen
+            → IsPrefix owner.now.seen self.now.seen }
+    {
+        owner.compare_front(&self.seen);
+    }
+
     /// The sum of the steps of the subscriptions that it heard.
     pub fn sum(&self) -> u64
         ensures { result ≡ self.now.sum }

@@ -2,6 +2,7 @@
 
 ghost use Rattle.std.specs.Prelude.{◌≡◌, ◌≤◌, ◌++◌, ◌∷◌, [], length};
 ghost use mathlib.Core.List.{IsPrefix};
+ghost use Rattle.rb_history.specs.Kept.{count_under};
 ghost use Rattle.rb_subscriber.specs.Owner.{OthersSince, has_seen};
 ghost use Rattle.rb_subscriber.specs.Subscription.{with_owner};
 
@@ -61,6 +62,17 @@ impl<L: StepLedger> Stake<L> {
         self.seen.compare(&other.seen);
     }
 
+    // the same of a front and what its owner has seen
+    pub(crate) fn compare_front(&self, front: &Front<Step>)
+        requires name { front.now.name ≡ L.history }
+        ensures less { length front.now.log ≤ length self.now.seen
+            → IsPrefix front.now.log self.now.seen }
+        ensures more { length self.now.seen ≤ length front.now.log
+            → IsPrefix self.now.seen front.now.log }
+    {
+        self.seen.compare(front);
+    }
+
     /// Shows its owner the whole history. Since it looked last, others alone have made steps.
     pub fn catch_up(&mut self, all: &mut Chronicle<Step>)
         requires name { all.old.name ≡ L.history }
@@ -94,6 +106,7 @@ impl<L: StepLedger> Stake<L> {
         ensures log { all.new.log ≡ all.old.log ++ (self.old.number, step.now) ∷ [] }
         ensures seen { self.new ≡ has_seen self.old all.new.log }
         ensures new { result.seen ≡ all.new.log }
+        ensures none { count_under result.number all.new.log ≡ 0 }
     {
         let hand = all.enroll(&mut self.hand, step);
         self.seen = all.front();

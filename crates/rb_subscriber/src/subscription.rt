@@ -281,7 +281,7 @@ impl<L: StepLedger> Subscription<L> {
 
     /// Its tables. They are what the groups of the deliveries that it accepted leave, applied one
     /// after another to the tables that it began with. If the changesets apply one after another
-    /// without conflict, they are what that gives.
+    /// without conflict, they are the result of that.
     pub fn tables(&self) -> &Tables
         ensures value { result.now ≡ self.now.tables }
         ensures batches { HasBatchTables self.now.base (batches_told self.now.batches)

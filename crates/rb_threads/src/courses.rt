@@ -3,7 +3,7 @@
 ghost use Rattle.std.specs.Prelude.{◌<◌, ◌≤◌};
 
 use par_apply::Open;
-use rb_broker::{Broker, Hall, TakeError};
+use rb_broker::{Broker, BrokerBrand, TakeError};
 use rb_desk::{Delivery, DeskError, DeskRefusal};
 use rb_subscriber::{AcceptRefusal, Stake, Subscription, SubscriptionError, Workers};
 use std::alloc::Global;
@@ -32,7 +32,7 @@ impl Course {
 const MOST_TURNS: u64 = 10_000_000;
 
 /// Accepts everything up to `last`, by its course.
-pub(crate) fn accept_all<L: Hall, R: Threads + Wait + Sync>(
+pub(crate) fn accept_all<L: BrokerBrand, R: Threads + Wait + Sync>(
     rt: &R,
     alloc: Global,
     broker: &Broker<L>,
@@ -61,7 +61,7 @@ pub(crate) fn accept_all<L: Hall, R: Threads + Wait + Sync>(
 }
 
 // what it held is stale
-fn reconnect<L: Hall, R: Wait>(
+fn reconnect<L: BrokerBrand, R: Wait>(
     rt: &R,
     alloc: Global,
     broker: &Broker<L>,
@@ -74,7 +74,7 @@ fn reconnect<L: Hall, R: Wait>(
 }
 
 // all deliveries may expire, also the one that it holds
-fn expire<L: Hall, R: Wait>(
+fn expire<L: BrokerBrand, R: Wait>(
     rt: &R,
     alloc: Global,
     broker: &Broker<L>,
@@ -90,7 +90,7 @@ fn expire<L: Hall, R: Wait>(
 }
 
 // gives back what it held; each of its numbers is delivered alone then, if it is opened
-fn give_back<L: Hall, R: Wait>(
+fn give_back<L: BrokerBrand, R: Wait>(
     rt: &R,
     alloc: Global,
     broker: &Broker<L>,
@@ -109,7 +109,7 @@ fn give_back<L: Hall, R: Wait>(
     }
 }
 
-fn take<L: Hall, R: Wait>(
+fn take<L: BrokerBrand, R: Wait>(
     rt: &R,
     alloc: Global,
     broker: &Broker<L>,
@@ -139,7 +139,7 @@ fn workers_for(first: u64) -> usize
 }
 
 // Accepts what it holds, unless it has it already, and acknowledges it, unless it has expired.
-fn accept<L: Hall, R: Threads + Wait + Sync>(
+fn accept<L: BrokerBrand, R: Threads + Wait + Sync>(
     rt: &R,
     alloc: Global,
     broker: &Broker<L>,

@@ -8,7 +8,8 @@ use anyhow::{Result, bail};
 use cs_apply::Tables;
 use cs_model::{CopyIn, Schema};
 use rb_broker::{
-    Broker, Hall, Opened, Publisher, PublisherMaker, SendRefusal, StagedSet, Started, TakeError,
+    Broker, BrokerBrand, Opened, Publisher, PublisherMaker, SendRefusal, StagedSet, Started,
+    TakeError,
 };
 use rb_close::finish;
 use rb_desk::{Config, Delivery, DeskError, DeskRefusal};
@@ -42,14 +43,14 @@ fn replicate<R: Threads + Wait + Sync, W: Write>(
 
 // What the threads own.
 #[derive(Drop)]
-struct Owners<L: Hall> {
+struct Owners<L: BrokerBrand> {
     publisher: Publisher<L>,
     sequencer: Sequencer<L>,
     keeper: Stake<L>,
     subscription: Subscription<L>,
 }
 
-fn run<L: Hall + Send + Sync, R: Threads + Wait + Sync, W: Write>(
+fn run<L: BrokerBrand + Send + Sync, R: Threads + Wait + Sync, W: Write>(
     rt: &R,
     alloc: Global,
     opened: Opened,
@@ -78,7 +79,7 @@ fn run<L: Hall + Send + Sync, R: Threads + Wait + Sync, W: Write>(
     write_rows(alloc, &subscription, out)
 }
 
-fn all_owners<L: Hall, R: Wait>(
+fn all_owners<L: BrokerBrand, R: Wait>(
     rt: &R,
     alloc: Global,
     broker: &Broker<L>,
@@ -99,7 +100,7 @@ fn all_owners<L: Hall, R: Wait>(
     }
 }
 
-fn end<L: Hall, R: Wait>(
+fn end<L: BrokerBrand, R: Wait>(
     rt: &R,
     alloc: Global,
     broker: Broker<L>,
@@ -129,7 +130,7 @@ fn end<L: Hall, R: Wait>(
 }
 
 // runs each owner in a thread of its own, the publisher in this one
-fn run_owners<L: Hall + Send + Sync, R: Threads + Wait + Sync>(
+fn run_owners<L: BrokerBrand + Send + Sync, R: Threads + Wait + Sync>(
     rt: &R,
     alloc: Global,
     broker: &Broker<L>,
@@ -160,7 +161,7 @@ fn run_owners<L: Hall + Send + Sync, R: Threads + Wait + Sync>(
     })
 }
 
-fn publish<L: Hall, R: Wait>(
+fn publish<L: BrokerBrand, R: Wait>(
     rt: &R,
     alloc: Global,
     broker: &Broker<L>,
@@ -175,7 +176,7 @@ fn publish<L: Hall, R: Wait>(
     Ok(())
 }
 
-fn send<L: Hall, R: Wait>(
+fn send<L: BrokerBrand, R: Wait>(
     rt: &R,
     broker: &Broker<L>,
     publisher: &mut Publisher<L>,
@@ -196,7 +197,7 @@ fn send<L: Hall, R: Wait>(
 }
 
 // places what is sent, and closes the sequence after it
-fn place<L: Hall, R: Wait>(
+fn place<L: BrokerBrand, R: Wait>(
     rt: &R,
     alloc: Global,
     broker: &Broker<L>,
@@ -218,7 +219,7 @@ fn place<L: Hall, R: Wait>(
 }
 
 // takes until all is drained
-fn accept<L: Hall, R: Wait>(
+fn accept<L: BrokerBrand, R: Wait>(
     rt: &R,
     alloc: Global,
     broker: &Broker<L>,
@@ -237,7 +238,7 @@ fn accept<L: Hall, R: Wait>(
     bail!("nothing more comes")
 }
 
-fn settle<L: Hall, R: Wait>(
+fn settle<L: BrokerBrand, R: Wait>(
     rt: &R,
     alloc: Global,
     broker: &Broker<L>,
@@ -254,7 +255,7 @@ fn settle<L: Hall, R: Wait>(
     Ok(())
 }
 
-fn write_rows<L: Hall, W: Write>(
+fn write_rows<L: BrokerBrand, W: Write>(
     alloc: Global,
     subscription: &Subscription<L>,
     out: &mut W,

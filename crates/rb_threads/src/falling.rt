@@ -6,7 +6,7 @@ use crate::history::{History, Said, made};
 use crate::subscribing::accepted;
 use cs_apply::Tables;
 use par_apply::{DurableRows, RowChange};
-use rb_broker::{Broker, Hall, RefusedResume, ResumeError};
+use rb_broker::{Broker, BrokerBrand, RefusedResume, ResumeError};
 use rb_subscriber::{DurableError, Lost, Subscription, Workers};
 use std::alloc::Global;
 use std::sync::Wait;
@@ -39,7 +39,7 @@ impl DurableRows for FailingStore {
     }
 }
 
-impl<L: Hall> History<L> {
+impl<L: BrokerBrand> History<L> {
     /// Accepts a delivery into the store.
     pub fn accept_durable<R: Threads + Sync>(
         &mut self,
@@ -114,7 +114,7 @@ impl<L: Hall> History<L> {
 
 // a function of its own, so that refused/calls.txt can name it
 #[inline(never)]
-fn call_resume<L: Hall, R: Wait>(
+fn call_resume<L: BrokerBrand, R: Wait>(
     broker: &Broker<L>,
     rt: &R,
     alloc: Global,

@@ -3,8 +3,8 @@
 ghost use Rattle.std.specs.Prelude.{◌≡◌};
 
 use crate::history::History;
-use rb_broker::{Hall, PlaceRefusal, Publisher, TakeError};
-use rb_close::{FinishRefusal, Finished, Unfinished, finish};
+use rb_broker::{BrokerBrand, PlaceError, Publisher, TakeError};
+use rb_close::{FinishError, Finished, RefusedFinish, finish};
 use rb_sequence::Item;
 use rb_subscriber::Stake;
 use std::alloc::Global;
@@ -30,7 +30,7 @@ pub const MOST_WAITING: u64 = 4_096;
 /// Each refusal hands all back. That the sequence is open comes before that a publisher is missing.
 /// What is left is the item in hand, then what waits in the intake: these, or the sendings of one
 /// publisher after its first if none are named.
-pub fn finishes<L: Hall, R: Wait + Abort>(
+pub fn finishes<L: BrokerBrand, R: Wait + Abort>(
     rt: &R,
     alloc: Global,
     history: History<L>,
@@ -38,13 +38,13 @@ pub fn finishes<L: Hall, R: Wait + Abort>(
 ) -> Result<(), Fail> {
     let (all, mut keeper) = unfinished(history);
     let (open, last) = without_one(all)?;
-    let open = refused(rt, alloc, open, FinishRefusal::NotClosed)?;
+    let open = refused(rt, alloc, open, FinishError::NotClosed)?;
     assert!(rt; open.broker.sequence().closing().is_none());
     assert_eq!(rt;
         open.broker.close(rt, &mut keeper).map(|told| told.last()),
         Some(1)
     );
-    let one = refused(rt, alloc, open, FinishRefusal::Missing)?;
+    let one = refused(rt, alloc, open, FinishError::Missing)?;
     match try_twice(rt, alloc, with_one(one, last)?) {
         Ok(finished) => has_left(rt, alloc, &finished, left),
         Err(_) => Err(Fail::new("nothing is missing")),
@@ -52,7 +52,7 @@ pub fn finishes<L: Hall, R: Wait + Abort>(
 }
 
 // its owners and its keeper
-fn unfinished<L: Hall>(history: History<L>) -> (Unfinished<L>, Stake<L>) {
+fn unfinished<L: BrokerBrand>(history: History<L>) -> (RefusedFinish<L>, Stake<L>) {
     let History {
         broker,
         sequencer,
@@ -61,8 +61,8 @@ fn unfinished<L: Hall>(history: History<L>) -> (Unfinished<L>, Stake<L>) {
         publishers,
         ..
     } = history;
-    let all = Unfinished {
-        why: FinishRefusal::Missing,
+    let all = RefusedFinish {
+        why: FinishError::Missing,
         publishers,
         sequencer,
         maker,
@@ -72,25 +72,30 @@ fn unfinished<L: Hall>(history: History<L>) -> (Unfinished<L>, Stake<L>) {
 }
 
 // without its last publisher
-fn without_one<L: Hall>(mut all: Unfinished<L>) -> Result<(Unfinished<L>, Publisher<L>), Fail> {
+fn without_one<L: BrokerBrand>(
+    mut all: RefusedFinish<L>,
+) -> Result<(RefusedFinish<L>, Publisher<L>), Fail> {
     match all.publishers.pop() {
         Some(last) => Ok((all, last)),
         None => Err(Fail::new("there are two publishers")),
     }
 }
 
-fn with_one<L: Hall>(mut all: Unfinished<L>, one: Publisher<L>) -> Result<Unfinished<L>, Fail> {
+fn with_one<L: BrokerBrand>(
+    mut all: RefusedFinish<L>,
+    one: Publisher<L>,
+) -> Result<RefusedFinish<L>, Fail> {
     all.publishers.push(one)?;
     Ok(all)
 }
 
 // what comes back of a broker that is refused for this
-fn refused<L: Hall, R: Wait + Abort>(
+fn refused<L: BrokerBrand, R: Wait + Abort>(
     rt: &R,
     alloc: Global,
-    all: Unfinished<L>,
-    why: FinishRefusal,
-) -> Result<Unfinished<L>, Fail> {
+    all: RefusedFinish<L>,
+    why: FinishError,
+) -> Result<RefusedFinish<L>, Fail> {
     let many = all.publishers.len();
     match try_twice(rt, alloc, all) {
         Ok(_) => Err(Fail::new("it is finished")),
@@ -102,28 +107,28 @@ fn refused<L: Hall, R: Wait + Abort>(
 }
 
 // Finishes, and once more if memory runs out.
-fn try_twice<L: Hall, R: Wait>(
+fn try_twice<L: BrokerBrand, R: Wait>(
     rt: &R,
     alloc: Global,
-    all: Unfinished<L>,
-) -> Result<Finished, Unfinished<L>> {
+    all: RefusedFinish<L>,
+) -> Result<Finished, RefusedFinish<L>> {
     let back = match try_once(rt, alloc, all) {
         Ok(finished) => return Ok(finished),
         Err(back) => back,
     };
-    if back.why == FinishRefusal::Memory {
+    if back.why == FinishError::Memory {
         try_once(rt, alloc, back)
     } else {
         Err(back)
     }
 }
 
-fn try_once<L: Hall, R: Wait>(
+fn try_once<L: BrokerBrand, R: Wait>(
     rt: &R,
     alloc: Global,
-    all: Unfinished<L>,
-) -> Result<Finished, Unfinished<L>> {
-    let Unfinished {
+    all: RefusedFinish<L>,
+) -> Result<Finished, RefusedFinish<L>> {
+    let RefusedFinish {
         publishers,
         sequencer,
         maker,
@@ -151,7 +156,7 @@ fn has_left<R: Abort>(
     assert_eq!(rt; (finished.placed, finished.closing.last()), (1, 1));
     assert!(rt; finished.sequence.get(1).is_some());
     are_left(rt, &finished.left, left);
-    let refused = PlaceRefusal::Closed(finished.closing.again());
+    let refused = PlaceError::Closed(finished.closing.again());
     let drained = TakeError::Drained(finished.closing.again());
     let said = format!(in alloc; "{refused}, {drained}")?;
     let text = "the sequence is closed, everything up to the last number is settled";

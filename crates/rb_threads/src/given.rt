@@ -2,7 +2,7 @@
 
 use cs_apply::Tables;
 use cs_model::{Octets, Schema, Seq, Shape};
-use rb_broker::{AddRefusal, Broker, Hall, Opened, Publisher, PublisherMaker};
+use rb_broker::{AddError, Broker, BrokerBrand, Opened, Publisher, PublisherMaker};
 use rb_desk::Config;
 use std::alloc::{AllocError, Global};
 use std::sync::Arc;
@@ -67,14 +67,14 @@ pub fn opened(
 }
 
 /// One publisher more.
-pub fn publisher<L: Hall>(
+pub fn publisher<L: BrokerBrand>(
     alloc: Global,
     maker: &mut PublisherMaker<L>,
     broker: &Broker<L>,
 ) -> Result<Publisher<L>, Fail> {
     match maker.make(alloc, broker) {
         Ok(publisher) => Ok(publisher),
-        Err(AddRefusal::Memory) => Err(AllocError.into()),
-        Err(AddRefusal::TooMany) => Err(Fail::new("there are too many publishers")),
+        Err(AddError::Memory) => Err(AllocError.into()),
+        Err(AddError::TooMany) => Err(Fail::new("there are too many publishers")),
     }
 }

@@ -14,7 +14,7 @@ use crate::rows::{
     RESUMED_FROM_BEFORE, Row, THE_WINDOW_AND_THE_FLOOR, WHAT_EXPIRES_IS_DELIVERED_AGAIN,
     WHAT_IS_GIVEN_BACK_GOES_TO_ANY, WITHDRAWAL,
 };
-use rb_broker::{Hall, MOST_PUBLISHERS, Opened};
+use rb_broker::{BrokerBrand, MOST_PUBLISHERS, Opened};
 use rb_subscriber::MOST_SUBSCRIPTIONS;
 use std::alloc::Global;
 use std::marker::Brand;
@@ -134,7 +134,7 @@ fn on_broker<R: Threads + Wait + Abort + Sync>(
     goes::<Brand, R>(rt, alloc, opened, scenario)
 }
 
-fn goes<L: Hall, R: Threads + Wait + Abort + Sync>(
+fn goes<L: BrokerBrand, R: Threads + Wait + Abort + Sync>(
     rt: &R,
     alloc: Global,
     opened: Opened,
@@ -150,7 +150,7 @@ fn goes<L: Hall, R: Threads + Wait + Abort + Sync>(
     ends(rt, alloc, history, scenario)
 }
 
-fn begins<L: Hall, R: Threads + Wait + Abort + Sync>(
+fn begins<L: BrokerBrand, R: Threads + Wait + Abort + Sync>(
     rt: &R,
     alloc: Global,
     history: &mut History<L>,
@@ -165,7 +165,7 @@ fn begins<L: Hall, R: Threads + Wait + Abort + Sync>(
     }
 }
 
-fn ends<L: Hall, R: Wait + Abort>(
+fn ends<L: BrokerBrand, R: Wait + Abort>(
     rt: &R,
     alloc: Global,
     history: History<L>,
@@ -181,7 +181,7 @@ fn ends<L: Hall, R: Wait + Abort>(
 }
 
 // The calls of the lines answer so, and then the rows are those of one thread.
-fn answers<L: Hall, R: Threads + Wait + Abort + Sync>(
+fn answers<L: BrokerBrand, R: Threads + Wait + Abort + Sync>(
     rt: &R,
     alloc: Global,
     history: &mut History<L>,
@@ -196,7 +196,7 @@ fn answers<L: Hall, R: Threads + Wait + Abort + Sync>(
 }
 
 // An audit counts the steps, but not without the subscriptions.
-fn counts<L: Hall, R: Wait + Abort>(
+fn counts<L: BrokerBrand, R: Wait + Abort>(
     rt: &R,
     alloc: Global,
     history: History<L>,
@@ -221,7 +221,7 @@ fn counts<L: Hall, R: Wait + Abort>(
 
 // Changesets fill two segments and the one cell of the third. Then the sequence is full. A
 // subscription accepts all of it, in deliveries of as many as there may be, and it closes.
-fn fills<L: Hall, R: Threads + Wait + Abort + Sync>(
+fn fills<L: BrokerBrand, R: Threads + Wait + Abort + Sync>(
     rt: &R,
     alloc: Global,
     history: &mut History<L>,
@@ -253,7 +253,7 @@ fn filling(alloc: Global, number: u64) -> Result<Vec<u8>, Fail> {
 }
 
 // the first delivery into the store, too
-fn accepts_all<L: Hall, R: Threads + Wait + Abort + Sync>(
+fn accepts_all<L: BrokerBrand, R: Threads + Wait + Abort + Sync>(
     rt: &R,
     alloc: Global,
     history: &mut History<L>,
@@ -289,7 +289,7 @@ fn placed(said: Said) -> Option<u64> {
 }
 
 // One is placed, one in hand, and as many wait as may.
-fn fills_the_intake<L: Hall, R: Threads + Wait + Abort + Sync>(
+fn fills_the_intake<L: BrokerBrand, R: Threads + Wait + Abort + Sync>(
     rt: &R,
     alloc: Global,
     history: &mut History<L>,
@@ -305,7 +305,7 @@ fn fills_the_intake<L: Hall, R: Threads + Wait + Abort + Sync>(
 }
 
 // There are as many publishers and subscriptions as there may be.
-fn crowds<L: Hall, R: Threads + Wait + Abort + Sync>(
+fn crowds<L: BrokerBrand, R: Threads + Wait + Abort + Sync>(
     rt: &R,
     alloc: Global,
     history: &mut History<L>,

@@ -7,7 +7,7 @@ use crate::falling::FailingStore;
 use crate::given::{empty_tables, publisher};
 use cs_apply::Tables;
 use rb_broker::{
-    AddRefusal, Broker, Hall, Opened, Publisher, PublisherMaker, ResumeError, Started,
+    AddError, Broker, BrokerBrand, Opened, Publisher, PublisherMaker, ResumeError, Started,
 };
 use rb_desk::{Delivery, DeskError, DeskRefusal};
 use rb_sequencer::Sequencer;
@@ -23,7 +23,7 @@ use std::thread::Threads;
 pub enum Said {
     /// A publisher's number.
     Publisher(u64),
-    NoPublisher(AddRefusal),
+    NoPublisher(AddError),
     /// The changeset's number among its publisher's sendings.
     Sent(u64),
     Full,
@@ -79,7 +79,7 @@ impl From<DeskError> for Said {
 
 /// A broker, its owners, and what its calls have made so far.
 #[derive(Drop)]
-pub struct History<L: Hall> {
+pub struct History<L: BrokerBrand> {
     pub broker: Broker<L>,
     pub sequencer: Sequencer<L>,
     pub maker: PublisherMaker<L>,
@@ -100,7 +100,7 @@ pub fn made<T>(found: Option<T>) -> Result<T, Fail> {
     }
 }
 
-impl<L: Hall> History<L> {
+impl<L: BrokerBrand> History<L> {
     /// The broker that was opened, with one publisher.
     pub fn start(alloc: Global, opened: Opened) -> Result<History<L>, Fail>
         requires sequence { (opened.limits ≡ L.limits) × (opened.cells ≡ L.cells) }

@@ -31,6 +31,8 @@ mod restarts;
 #[cfg(test)]
 mod rows;
 #[cfg(test)]
+mod sizes;
+#[cfg(test)]
 mod subscribing;
 #[cfg(test)]
 mod texts;

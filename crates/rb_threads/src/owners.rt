@@ -8,8 +8,8 @@ use crate::given::{empty_tables, insert, opened, publisher};
 use cs_apply::Tables;
 use cs_model::Origin;
 use rb_broker::{
-    Broker, Hall, Opened, Publisher, PublisherMaker, SendRefusal, StagedSet, Started,
-    WithdrawRefusal,
+    Broker, BrokerBrand, Opened, Publisher, PublisherMaker, SendRefusal, StagedSet, Started,
+    WithdrawError,
 };
 use rb_close::{meet, meet_sequencer};
 use rb_sequence::Sequence;
@@ -90,14 +90,14 @@ fn runs<R: Threads + Wait + Abort + Sync>(rt: &R, alloc: Global, load: Load) -> 
 
 /// What a thread does. It gives back what it owns.
 #[derive(Drop)]
-enum Owner<L: Hall> {
+enum Owner<L: BrokerBrand> {
     Publishes(Publisher<L>),
     Places(Sequencer<L>),
     Reads,
     Accepts(Subscription<L>),
 }
 
-fn all_arrive<L: Hall + Send + Sync, R: Threads + Wait + Abort + Sync>(
+fn all_arrive<L: BrokerBrand + Send + Sync, R: Threads + Wait + Abort + Sync>(
     rt: &R,
     alloc: Global,
     opened: Opened,
@@ -129,7 +129,7 @@ fn all_arrive<L: Hall + Send + Sync, R: Threads + Wait + Abort + Sync>(
     )
 }
 
-fn all_owners<L: Hall, R: Wait>(
+fn all_owners<L: BrokerBrand, R: Wait>(
     rt: &R,
     alloc: Global,
     broker: &Broker<L>,
@@ -151,7 +151,7 @@ fn all_owners<L: Hall, R: Wait>(
 }
 
 // Each owner works in a thread of its own.
-fn all_end<L: Hall + Send + Sync, R: Threads + Wait + Abort + Sync>(
+fn all_end<L: BrokerBrand + Send + Sync, R: Threads + Wait + Abort + Sync>(
     rt: &R,
     alloc: Global,
     broker: &Broker<L>,
@@ -174,7 +174,7 @@ fn all_end<L: Hall + Send + Sync, R: Threads + Wait + Abort + Sync>(
 }
 
 // those that are needed afterwards
-fn sorted_out<L: Hall>(
+fn sorted_out<L: BrokerBrand>(
     alloc: Global,
     mut owners: Vec<Owner<L>>,
 ) -> Result<(Vec<Sequencer<L>>, Vec<Subscription<L>>), Fail> {
@@ -191,7 +191,7 @@ fn sorted_out<L: Hall>(
     Ok((sequencers, subscriptions))
 }
 
-fn subscriber<L: Hall, R: Wait>(
+fn subscriber<L: BrokerBrand, R: Wait>(
     rt: &R,
     alloc: Global,
     broker: &Broker<L>,
@@ -204,7 +204,7 @@ fn subscriber<L: Hall, R: Wait>(
 }
 
 // stops the test where a thread fails
-fn work<L: Hall, R: Threads + Wait + Abort + Sync>(
+fn work<L: BrokerBrand, R: Threads + Wait + Abort + Sync>(
     rt: &R,
     alloc: Global,
     broker: &Broker<L>,
@@ -244,7 +244,7 @@ fn key(publisher: u64, place: u64) -> u64 {
 }
 
 // sends an INSERT of each of its keys, then withdraws some of its entries
-fn publish<L: Hall, R: Wait>(
+fn publish<L: BrokerBrand, R: Wait>(
     rt: &R,
     alloc: Global,
     broker: &Broker<L>,
@@ -264,7 +264,7 @@ fn publish<L: Hall, R: Wait>(
 }
 
 // stages the INSERT of a key
-fn stage<L: Hall>(
+fn stage<L: BrokerBrand>(
     alloc: Global,
     publisher: &mut Publisher<L>,
     key: u64,
@@ -278,7 +278,7 @@ fn stage<L: Hall>(
 }
 
 // sends a set, as often as the intake is full
-fn send<L: Hall, R: Wait>(
+fn send<L: BrokerBrand, R: Wait>(
     rt: &R,
     broker: &Broker<L>,
     publisher: &mut Publisher<L>,
@@ -301,7 +301,7 @@ fn send<L: Hall, R: Wait>(
 }
 
 // stages the withdrawal of an entry, once it is placed
-fn withdraw<L: Hall>(
+fn withdraw<L: BrokerBrand>(
     alloc: Global,
     sequence: &Sequence,
     publisher: &mut Publisher<L>,
@@ -313,14 +313,14 @@ fn withdraw<L: Hall>(
     for _ in 0..MOST_TURNS {
         match publisher.withdraw(alloc, sequence, number) {
             Ok(set) => return Ok(set),
-            Err(WithdrawRefusal::NotPlaced) => thread::yield_now(),
+            Err(WithdrawError::NotPlaced) => thread::yield_now(),
             Err(_) => return Err("a withdrawal is refused"),
         }
     }
     Err("an entry is never placed")
 }
 
-fn place<L: Hall, R: Wait>(
+fn place<L: BrokerBrand, R: Wait>(
     rt: &R,
     alloc: Global,
     broker: &Broker<L>,
@@ -383,7 +383,7 @@ fn in_sending_order<R: Abort>(
 }
 
 // Every two of them have accepted the whole sequence, and each has the tables of one thread.
-fn all_meet<L: Hall, R: Abort>(
+fn all_meet<L: BrokerBrand, R: Abort>(
     rt: &R,
     alloc: Global,
     sequence: &Sequence,
@@ -417,7 +417,7 @@ fn applied_singly(alloc: Global, sequence: &Sequence, load: Load) -> Result<Tabl
 }
 
 // The journal has the steps of all subscriptions. An audit without the last one counts nothing.
-fn counts<L: Hall, R: Wait + Abort>(
+fn counts<L: BrokerBrand, R: Wait + Abort>(
     rt: &R,
     broker: &Broker<L>,
     auditor: &mut Auditor<L>,

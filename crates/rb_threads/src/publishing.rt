@@ -7,8 +7,8 @@ use crate::history::{History, Said, made};
 use cs_model::Origin;
 use cs_parse::ParseError;
 use rb_broker::{
-    AddRefusal, Broker, Hall, Occupied, Opened, PlaceRefusal, RefusedItem, SendRefusal, Started,
-    WithdrawRefusal,
+    AddError, Broker, BrokerBrand, Occupied, Opened, PlaceError, RefusedItem, SendRefusal, Started,
+    WithdrawError,
 };
 use rb_intake::SequencerPass;
 use rb_sequencer::Turn;
@@ -19,7 +19,7 @@ use std::process::Abort;
 use std::sync::Wait;
 use std::test::Fail;
 
-impl<L: Hall> History<L> {
+impl<L: BrokerBrand> History<L> {
     /// Makes the call of this name, if it is one of these.
     pub fn publish<R: Wait>(
         &mut self,
@@ -53,7 +53,7 @@ impl<L: Hall> History<L> {
                 self.publishers.push_reserved(publisher);
                 Ok(Said::Publisher(number))
             }
-            Err(AddRefusal::Memory) => Ok(Said::Memory),
+            Err(AddError::Memory) => Ok(Said::Memory),
             Err(why) => Ok(Said::NoPublisher(why)),
         }
     }
@@ -90,10 +90,10 @@ impl<L: Hall> History<L> {
         match self.sequencer.turn(rt, alloc, &self.broker) {
             Turn::Placed(told) => Said::Placed(told.number()),
             Turn::Idle(_) => Said::Idle,
-            Turn::Refused(PlaceRefusal::SequenceFull) => Said::SequenceFull,
-            Turn::Refused(PlaceRefusal::Closed(last)) => Said::Closed(last.last()),
-            Turn::Refused(PlaceRefusal::Memory) => Said::Memory,
-            Turn::Refused(PlaceRefusal::JournalFull | PlaceRefusal::Occupied(_)) => Said::Unknown,
+            Turn::Refused(PlaceError::SequenceFull) => Said::SequenceFull,
+            Turn::Refused(PlaceError::Closed(last)) => Said::Closed(last.last()),
+            Turn::Refused(PlaceError::Memory) => Said::Memory,
+            Turn::Refused(PlaceError::JournalFull | PlaceError::Occupied(_)) => Said::Unknown,
         }
     }
 
@@ -131,7 +131,7 @@ impl<L: Hall> History<L> {
     }
 }
 
-fn sent<L: Hall>(answer: Result<u64, SendRefusal<L>>) -> Said {
+fn sent<L: BrokerBrand>(answer: Result<u64, SendRefusal<L>>) -> Said {
     match answer {
         Ok(own) => Said::Sent(own),
         Err(SendRefusal::Full(_)) => Said::Full,
@@ -139,12 +139,12 @@ fn sent<L: Hall>(answer: Result<u64, SendRefusal<L>>) -> Said {
     }
 }
 
-fn not_withdrawn(why: &WithdrawRefusal) -> Said {
+fn not_withdrawn(why: &WithdrawError) -> Said {
     match why {
-        WithdrawRefusal::NotPlaced => Said::NotPlaced,
-        WithdrawRefusal::NotYours(told) => Said::NotYours(told.number()),
-        WithdrawRefusal::AlreadyWithdrawn(told) => Said::AlreadyWithdrawn(told.number()),
-        WithdrawRefusal::Memory(_) => Said::Memory,
+        WithdrawError::NotPlaced => Said::NotPlaced,
+        WithdrawError::NotYours(told) => Said::NotYours(told.number()),
+        WithdrawError::AlreadyWithdrawn(told) => Said::AlreadyWithdrawn(told.number()),
+        WithdrawError::Memory(_) => Said::Memory,
     }
 }
 
@@ -159,7 +159,11 @@ fn second_first<R: Wait + Abort>(rt: &R, alloc: Global) -> Result<(), Fail> {
 }
 
 // Two are pulled. The second isn't placed as long as the first isn't.
-fn pulls_two<L: Hall, R: Wait + Abort>(rt: &R, alloc: Global, opened: Opened) -> Result<(), Fail>
+fn pulls_two<L: BrokerBrand, R: Wait + Abort>(
+    rt: &R,
+    alloc: Global,
+    opened: Opened,
+) -> Result<(), Fail>
     requires sequence { (opened.limits ≡ L.limits) × (opened.cells ≡ L.cells) }
     requires queue { opened.queue ≡ L.queue }
     requires ledger { (opened.ledger ≡ L.name) × (L.parts ≡ 1024) × (L.all ≡ 1024) }
@@ -184,7 +188,7 @@ fn pulls_two<L: Hall, R: Wait + Abort>(rt: &R, alloc: Global, opened: Opened) ->
 }
 
 // the number that the desk places next, where the second item is to be placed
-fn next_number<L: Hall, R: Wait>(
+fn next_number<L: BrokerBrand, R: Wait>(
     rt: &R,
     alloc: Global,
     broker: &Broker<L>,
@@ -200,13 +204,13 @@ fn next_number<L: Hall, R: Wait>(
     match broker.place_next(rt, alloc, pass, placer, second, 2) {
         Err(
             RefusedItem {
-                why: PlaceRefusal::Occupied(Occupied::Next(next)),
+                why: PlaceError::Occupied(Occupied::Next(next)),
                 ..
             },
         ) => Ok(next),
         Err(
             RefusedItem {
-                why: PlaceRefusal::Memory,
+                why: PlaceError::Memory,
                 ..
             },
         ) => Err(AllocError.into()),

@@ -9,7 +9,7 @@ use crate::given::{opened, schema};
 use crate::history::History;
 use cs_apply::Tables;
 use par_apply::Open;
-use rb_broker::{Broker, Hall, Opened};
+use rb_broker::{Broker, BrokerBrand, Opened};
 use rb_desk::Delivery;
 use rb_subscriber::{Subscription, Workers};
 use replica_store::Replica;
@@ -93,7 +93,7 @@ fn created<S: Alter + Drop>(alloc: Global, conn: Connection<S>) -> Result<Connec
 
 // A broker gets all changesets, and its subscription goes on with what the replica has. Then both
 // are given up.
-fn lives<L: Hall, S: Alter + Drop, R: Threads + Wait + Abort + Sync>(
+fn lives<L: BrokerBrand, S: Alter + Drop, R: Threads + Wait + Abort + Sync>(
     rt: &R,
     alloc: Global,
     opened: Opened,
@@ -110,7 +110,7 @@ fn lives<L: Hall, S: Alter + Drop, R: Threads + Wait + Abort + Sync>(
     goes_on(rt, alloc, &mut history, conn, life)
 }
 
-fn goes_on<L: Hall, S: Alter + Drop, R: Threads + Wait + Abort + Sync>(
+fn goes_on<L: BrokerBrand, S: Alter + Drop, R: Threads + Wait + Abort + Sync>(
     rt: &R,
     alloc: Global,
     history: &mut History<L>,
@@ -126,7 +126,7 @@ fn goes_on<L: Hall, S: Alter + Drop, R: Threads + Wait + Abort + Sync>(
     Ok(conn)
 }
 
-fn subscribed<L: Hall, R: Wait>(
+fn subscribed<L: BrokerBrand, R: Wait>(
     rt: &R,
     alloc: Global,
     history: &mut History<L>,
@@ -141,7 +141,7 @@ fn subscribed<L: Hall, R: Wait>(
 }
 
 // The subscription has this cursor, and both have the rows up to there.
-fn has_rows<L: Hall, R: Abort>(
+fn has_rows<L: BrokerBrand, R: Abort>(
     rt: &R,
     alloc: Global,
     history: &History<L>,
@@ -180,7 +180,7 @@ fn opened_again<S: Alter + Drop>(
 }
 
 // takes, accepts and acknowledges as many deliveries as the life says
-fn works<L: Hall, S: Alter + Drop, R: Threads + Wait + Abort + Sync>(
+fn works<L: BrokerBrand, S: Alter + Drop, R: Threads + Wait + Abort + Sync>(
     rt: &R,
     alloc: Global,
     broker: &Broker<L>,
@@ -205,7 +205,7 @@ fn works<L: Hall, S: Alter + Drop, R: Threads + Wait + Abort + Sync>(
 }
 
 // Accepts into the replica, opened again, which has the subscription's rows and its cursor.
-fn accepts<L: Hall, S: Alter + Drop, R: Threads + Wait + Abort + Sync>(
+fn accepts<L: BrokerBrand, S: Alter + Drop, R: Threads + Wait + Abort + Sync>(
     rt: &R,
     alloc: Global,
     broker: &Broker<L>,

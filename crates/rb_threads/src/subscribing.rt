@@ -4,7 +4,7 @@ use crate::entered::{APPLIERS, Entered};
 use crate::history::{History, Said, made};
 use cs_apply::Tables;
 use cs_model::Schema;
-use rb_broker::{Broker, Hall, RefusedSubscription, SubscribeError, TakeError};
+use rb_broker::{Broker, BrokerBrand, RefusedSubscription, SubscribeError, TakeError};
 use rb_desk::Delivery;
 use rb_subscriber::{AcceptRefusal, Shown, Subscription, SubscriptionError, Workers};
 use std::alloc::Global;
@@ -12,7 +12,7 @@ use std::sync::{Arc, Wait};
 use std::test::Fail;
 use std::thread::Threads;
 
-impl<L: Hall> History<L> {
+impl<L: BrokerBrand> History<L> {
     /// Makes the call of this name, if it is one of these. Subscriptions and deliveries are named
     /// by how many were made before them.
     pub fn follow<R: Threads + Wait + Sync>(
@@ -212,7 +212,7 @@ impl<L: Hall> History<L> {
 
 // a function of its own, so that refused/calls.txt can name it
 #[inline(never)]
-fn call_accept<L: Hall, R: Threads + Sync>(
+fn call_accept<L: BrokerBrand, R: Threads + Sync>(
     broker: &Broker<L>,
     subscription: &mut Subscription<L>,
     workers: &Workers<R, Entered>,

@@ -1,7 +1,7 @@
 //! The texts of what a broker refuses.
 
 use cs_model::{Changeset, Origin};
-use rb_broker::{AddRefusal, Occupied, PlaceRefusal, SubscribeError, TakeError, WithdrawRefusal};
+use rb_broker::{AddError, Occupied, PlaceError, SubscribeError, TakeError, WithdrawError};
 use rb_desk::{DeskError, DeskRefusal};
 use rb_sequence::{Entry, Item, Sequence, Told};
 use std::alloc::Global;
@@ -11,24 +11,24 @@ use std::test::Fail;
 fn publishers_are_told_why(rt: HostRuntime) -> Result<(), Fail> {
     let alloc = rt.alloc();
     let added = [
-        (AddRefusal::TooMany, "there are 64 publishers"),
-        (AddRefusal::Memory, "out of memory"),
+        (AddError::TooMany, "there are 64 publishers"),
+        (AddError::Memory, "out of memory"),
     ];
     for (why, text) in added {
         assert_eq!(rt; format!(in alloc; "{why}")?.as_str(), text);
     }
     let told = token(alloc)?;
     let withdrawn = [
-        (WithdrawRefusal::NotPlaced, "there is no such entry"),
+        (WithdrawError::NotPlaced, "there is no such entry"),
         (
-            WithdrawRefusal::NotYours(told.again()),
+            WithdrawError::NotYours(told.again()),
             "the entry is another publisher's",
         ),
         (
-            WithdrawRefusal::AlreadyWithdrawn(told.again()),
+            WithdrawError::AlreadyWithdrawn(told.again()),
             "the entry is withdrawn already",
         ),
-        (WithdrawRefusal::Memory(told), "out of memory"),
+        (WithdrawError::Memory(told), "out of memory"),
     ];
     for (why, text) in withdrawn {
         assert_eq!(rt; format!(in alloc; "{why}")?.as_str(), text);
@@ -52,10 +52,10 @@ fn token(alloc: Global) -> Result<Told, Fail> {
 fn turns_say_why(rt: HostRuntime) -> Result<(), Fail> {
     let alloc = rt.alloc();
     let placed = [
-        (PlaceRefusal::JournalFull, "the journal is full"),
-        (PlaceRefusal::SequenceFull, "the sequence is full"),
-        (PlaceRefusal::Occupied(Occupied::Next(1)), "the cell is set"),
-        (PlaceRefusal::Memory, "out of memory"),
+        (PlaceError::JournalFull, "the journal is full"),
+        (PlaceError::SequenceFull, "the sequence is full"),
+        (PlaceError::Occupied(Occupied::Next(1)), "the cell is set"),
+        (PlaceError::Memory, "out of memory"),
     ];
     for (why, text) in placed {
         assert_eq!(rt; format!(in alloc; "{why}")?.as_str(), text);

@@ -13,7 +13,7 @@ use crate::rows::{Commits, FIRST_CURSOR, SECOND_CURSOR, one_table};
 use crate::stand::{Stand, limits};
 use crate::stops::{TOO_MANY, Trial};
 use cs_model::CopyIn;
-use rb_broker::{Broker, Hall, Opened};
+use rb_broker::{Broker, BrokerBrand, Opened};
 use rb_subscriber::{Lost, Subscription};
 use replica_store::Replica;
 use sqlite::{Alter, Connection, FileStore, Options};
@@ -38,7 +38,7 @@ enum Fate {
 
 /// What an accept into a replica left.
 #[derive(Drop)]
-enum Left<L: Hall, S: Alter> {
+enum Left<L: BrokerBrand, S: Alter> {
     Early,
     Accepted,
     Fell(Lost<L>, Connection<S>),
@@ -145,7 +145,7 @@ fn opened_broker(alloc: Global) -> io::Result<Opened> {
     Ok(Opened::new(alloc, limits()?, schema)?)
 }
 
-fn tried_at<L: Hall, R: Wait + Threads + Sync>(
+fn tried_at<L: BrokerBrand, R: Wait + Threads + Sync>(
     rt: &R,
     alloc: Global,
     opened: Opened,
@@ -163,7 +163,7 @@ fn tried_at<L: Hall, R: Wait + Threads + Sync>(
     tried_over(rt, alloc, &mut stand, trial, operations, loss, commits)
 }
 
-fn tried_over<L: Hall, R: Wait + Threads + Sync>(
+fn tried_over<L: BrokerBrand, R: Wait + Threads + Sync>(
     rt: &R,
     alloc: Global,
     stand: &mut Stand<L>,
@@ -201,7 +201,7 @@ fn crashed(
 }
 
 // Accepts two deliveries into a new replica.
-fn accept_both<L: Hall, S: Alter + Drop, R: Wait + Threads + Sync>(
+fn accept_both<L: BrokerBrand, S: Alter + Drop, R: Wait + Threads + Sync>(
     rt: &R,
     alloc: Global,
     stand: &mut Stand<L>,
@@ -229,7 +229,7 @@ fn accept_both<L: Hall, S: Alter + Drop, R: Wait + Threads + Sync>(
 }
 
 // Returns how many of the two deliveries are accepted.
-fn accept_in_turn<L: Hall, S: Alter + Drop, R: Wait + Threads + Sync>(
+fn accept_in_turn<L: BrokerBrand, S: Alter + Drop, R: Wait + Threads + Sync>(
     rt: &R,
     alloc: Global,
     stand: &mut Stand<L>,
@@ -249,7 +249,7 @@ fn accept_in_turn<L: Hall, S: Alter + Drop, R: Wait + Threads + Sync>(
     Ok(if accepted { 2 } else { 1 })
 }
 
-fn fall<L: Hall, S: Alter + Drop>(
+fn fall<L: BrokerBrand, S: Alter + Drop>(
     subscription: Subscription<L>,
     replica: Replica<S>,
 ) -> io::Result<Left<L, S>> {
@@ -260,7 +260,7 @@ fn fall<L: Hall, S: Alter + Drop>(
 }
 
 // Resumes a subscription with what its replica has, and lets it accept what is left.
-fn resume<L: Hall, S: Alter + Drop, R: Wait + Threads + Sync>(
+fn resume<L: BrokerBrand, S: Alter + Drop, R: Wait + Threads + Sync>(
     rt: &R,
     alloc: Global,
     stand: &mut Stand<L>,

@@ -12,7 +12,7 @@ use crate::rows::SECOND_CURSOR;
 use crate::stand::Stand;
 use cs_apply::Tables;
 use par_apply::Open;
-use rb_broker::{Broker, Hall, RefusedResume, ResumeError, TakeError};
+use rb_broker::{Broker, BrokerBrand, RefusedResume, ResumeError, TakeError};
 use rb_desk::{DeskError, DeskRefusal};
 use rb_subscriber::{DurableError, Lost, Subscription, Workers};
 use replica_store::{Replica, ReplicaError};
@@ -32,12 +32,12 @@ pub struct Loaded<S: Alter> {
 
 /// A subscription, and the replica that has its rows and its cursor.
 #[derive(Drop)]
-pub struct Kept<L: Hall, S: Alter> {
+pub struct Kept<L: BrokerBrand, S: Alter> {
     pub subscription: Subscription<L>,
     pub replica: Replica<S>,
 }
 
-impl<L: Hall, S: Alter + Drop> Kept<L, S> {
+impl<L: BrokerBrand, S: Alter + Drop> Kept<L, S> {
     // a subscription with the rows of a replica, if it has its cursor too
     fn of(subscription: Subscription<L>, replica: Replica<S>, cursor: u64) -> Option<Kept<L, S>>
         requires { KeepsRows (state S.Store replica.conn) subscription.tables.rows cursor }
@@ -74,7 +74,7 @@ pub fn load<S: Alter + Drop>(
 
 /// A subscription with the rows and the cursor of a replica: a new one, or the one that was lost,
 /// resumed after the cursor of the other state was refused.
-pub fn subscribed<L: Hall, S: Alter + Drop, R: Wait>(
+pub fn subscribed<L: BrokerBrand, S: Alter + Drop, R: Wait>(
     rt: &R,
     alloc: Global,
     stand: &mut Stand<L>,
@@ -120,7 +120,7 @@ pub fn subscribed<L: Hall, S: Alter + Drop, R: Wait>(
 }
 
 /// Accepts the next delivery. Returns whether it is accepted: if not, the subscription has fallen.
-pub fn accept_next<L: Hall, S: Alter + Drop, R: Wait + Threads + Sync>(
+pub fn accept_next<L: BrokerBrand, S: Alter + Drop, R: Wait + Threads + Sync>(
     rt: &R,
     alloc: Global,
     broker: &Broker<L>,
@@ -149,7 +149,7 @@ pub fn accept_next<L: Hall, S: Alter + Drop, R: Wait + Threads + Sync>(
 }
 
 /// Accepts what is left, and hands the connection of the replica back, if nothing is left then.
-pub fn gone_on<L: Hall, S: Alter + Drop, R: Wait + Threads + Sync>(
+pub fn gone_on<L: BrokerBrand, S: Alter + Drop, R: Wait + Threads + Sync>(
     rt: &R,
     alloc: Global,
     broker: &Broker<L>,
@@ -174,7 +174,7 @@ pub fn gone_on<L: Hall, S: Alter + Drop, R: Wait + Threads + Sync>(
 }
 
 // whether it has accepted everything
-fn has_nothing_left<L: Hall, R: Wait>(
+fn has_nothing_left<L: BrokerBrand, R: Wait>(
     rt: &R,
     alloc: Global,
     broker: &Broker<L>,

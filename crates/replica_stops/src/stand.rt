@@ -2,7 +2,7 @@
 
 ghost use Rattle.std.specs.Prelude.{◌≡◌, [], IfOk};
 
-use rb_broker::{Broker, Hall, Publisher, StagedSet, Started};
+use rb_broker::{Broker, BrokerBrand, Publisher, StagedSet, Started};
 use rb_desk::Config;
 use rb_sequencer::{Sequencer, Turn};
 use rb_subscriber::Stake;
@@ -12,7 +12,7 @@ use std::sync::Wait;
 
 /// A broker with its owners but for its subscriber.
 #[derive(Drop)]
-pub struct Stand<L: Hall> {
+pub struct Stand<L: BrokerBrand> {
     pub broker: Broker<L>,
     pub keeper: Stake<L>,
     publisher: Publisher<L>,
@@ -27,7 +27,7 @@ pub fn limits() -> io::Result<Config> {
     }
 }
 
-impl<L: Hall> Stand<L> {
+impl<L: BrokerBrand> Stand<L> {
     /// A broker that was started, with its sequencer and one publisher.
     pub fn of(alloc: Global, started: Started<L>) -> io::Result<Stand<L>>
         requires { started.sequencer ≡ record { queue = L.queue; pulled = []; ended = [] } }
@@ -82,7 +82,7 @@ impl<L: Hall> Stand<L> {
 }
 
 // stages a changeset
-fn staged<L: Hall>(
+fn staged<L: BrokerBrand>(
     alloc: Global,
     publisher: &mut Publisher<L>,
     text: &[u8],

@@ -55,7 +55,7 @@ pub const BROKER_JOURNAL_FULL: c_int = -22;
 /// broker_place: other changesets wait to be placed, and broker_turn places them. Numbers: how many.
 pub const BROKER_WAITING: c_int = -23;
 /// No subscription has this number.
-pub const BROKER_NO_SUBSCRIPTION: c_int = -30;
+pub const BROKER_NO_SUCH: c_int = -30;
 /// The subscription has another link now than the delivery.
 pub const BROKER_STALE_LINK: c_int = -31;
 /// The subscription has as many deliveries in flight as its window holds.

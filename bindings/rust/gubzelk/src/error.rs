@@ -134,7 +134,7 @@ errors! {
         count: u64
     } = BROKER_WAITING;
     /// No subscription has this number.
-    NoSubscription = BROKER_NO_SUBSCRIPTION;
+    NoSuch = BROKER_NO_SUCH;
     /// The subscription has another link now than the delivery. Its entries come again.
     StaleLink = BROKER_STALE_LINK;
     /// The subscription has as many deliveries in flight as its limit `window` lets it have.

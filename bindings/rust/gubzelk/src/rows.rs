@@ -13,7 +13,7 @@ impl Broker {
     /// calls, and this makes two. [`Broker::rows_into`] makes one if there is room.
     ///
     /// # Errors
-    /// [`NoSubscription`](Error::NoSubscription)
+    /// [`NoSuch`](Error::NoSuch)
     pub fn rows(&self, subscription: SubscriptionId) -> Result<Vec<u8>> {
         // SAFETY: `out` has `room` bytes. So it has below.
         self.filled(|b, out, room| unsafe { sys::broker_rows(b, subscription.0, out, room) })
@@ -33,7 +33,7 @@ impl Broker {
     ///
     /// # Errors
     /// The first of these that applies:
-    /// - [`NoSubscription`](Error::NoSubscription)
+    /// - [`NoSuch`](Error::NoSuch)
     /// - [`NoTable`](Error::NoTable) if the broker has no table at this place.
     pub fn row(&self, subscription: SubscriptionId, table: usize, key: &Key) -> Result<Option<Vec<u8>>> {
         let mut out = Vec::new();

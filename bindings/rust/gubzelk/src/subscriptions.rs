@@ -38,7 +38,7 @@ impl Broker {
     ///
     /// # Errors
     /// The first of these that applies:
-    /// - [`NoSubscription`](Error::NoSubscription)
+    /// - [`NoSuch`](Error::NoSuch)
     /// - [`JournalFull`](Error::JournalFull)
     /// - [`Closed`](Error::Closed) if the subscription is closed.
     /// - [`WindowFull`](Error::WindowFull) if it has as many deliveries in flight as it may.
@@ -102,7 +102,7 @@ impl Broker {
     /// The last number that a subscription has accepted.
     ///
     /// # Errors
-    /// [`NoSubscription`](Error::NoSubscription)
+    /// [`NoSuch`](Error::NoSuch)
     pub fn cursor(&self, subscription: SubscriptionId) -> Result<u64> {
         // SAFETY: as in `subscribe`.
         self.number(|b, cursor| unsafe { sys::broker_cursor(b, subscription.0, cursor) })
@@ -111,7 +111,7 @@ impl Broker {
     /// How far a subscription has come.
     ///
     /// # Errors
-    /// [`NoSubscription`](Error::NoSubscription)
+    /// [`NoSuch`](Error::NoSuch)
     pub fn status(&self, subscription: SubscriptionId) -> Result<Status> {
         let mut status = sys::broker_status::default();
         // SAFETY: the handle is this broker's, and the output a struct of this call alone.
@@ -127,7 +127,7 @@ impl Broker {
     ///
     /// # Errors
     /// The first of these that applies:
-    /// - [`NoSubscription`](Error::NoSubscription)
+    /// - [`NoSuch`](Error::NoSuch)
     /// - [`JournalFull`](Error::JournalFull)
     /// - [`Closed`](Error::Closed) if the subscription is closed.
     /// - [`BadCursor`](Error::BadCursor) if `cursor` is less than the floor, or greater than what was offered.
@@ -140,7 +140,7 @@ impl Broker {
     ///
     /// # Errors
     /// The first of these that applies:
-    /// - [`NoSubscription`](Error::NoSubscription)
+    /// - [`NoSuch`](Error::NoSuch)
     /// - [`NotFallen`](Error::NotFallen)
     /// - [`JournalFull`](Error::JournalFull)
     /// - [`Closed`](Error::Closed) if the subscription is closed.
@@ -154,7 +154,7 @@ impl Broker {
     ///
     /// # Errors
     /// The first of these that applies:
-    /// - [`NoSubscription`](Error::NoSubscription)
+    /// - [`NoSuch`](Error::NoSuch)
     /// - [`JournalFull`](Error::JournalFull)
     /// - [`Closed`](Error::Closed) if it is closed already.
     pub fn unsubscribe(&mut self, subscription: SubscriptionId) -> Result<()> {

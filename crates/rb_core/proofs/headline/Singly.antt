@@ -1,4 +1,4 @@
--- Where what a subscription accepted applies singly, its tables are what that gives.
+-- Where what a subscription accepted applies singly, its tables are the result of that.
 use Rattle.std.proofs.Common.{◌≡◌, ◌↔◌, ℕ, zero, suc, List, [], ◌∷◌, ◌++◌, take, drop, Some, Ok, refl, sym, subst}
 use Rattle.std.specs.Prelude.{slice_get, ◌-◌}
 use Rattle.std.specs.List.{AllByRecursion}

@@ -10,8 +10,8 @@ use Rattle.cs_model.proofs.CallerLemmas.{all_push}
 use Rattle.rb_script.specs.Script.{IsLine, ended_lines}
 use Rattle.rb_script.proofs.endings.EndLaws.{length-front}
 use Rattle.rb_script.proofs.endings.StreamLaws.{Consumes-trans, Consumes-Keeps}
-use Rattle.rb_drive.specs.declared.fault.DriveFault.{DriveFault}
-use Rattle.rb_drive.specs.declared.fault.DriveFault.TheVariants as fault
+use Rattle.rb_drive.specs.declared.fault.DriveError.{DriveError}
+use Rattle.rb_drive.specs.declared.fault.DriveError.TheVariants as fault
 use Rattle.rb_drive.specs.declared.input.Input.{Input}
 use Rattle.rb_drive.specs.declared.input.Reading.{Reading}
 use Rattle.rb_drive.specs.Input.{AreBytesOf, HasBadLine, HasNoBadLine, InputEnds, IsInput}
@@ -74,18 +74,18 @@ last_line_is_bad reading n some bad count bytes r =
       ));
     }
 
-last_so_stops : (reading : Reading) (why : DriveFault) (after : Input) → reading.line.items ≢ []
+last_so_stops : (reading : Reading) (why : DriveError) (after : Input) → reading.line.items ≢ []
     → AddEnds (line_given reading) reading.input (Err why) after
     → (bytes : List ℕ) → IsReadUpTo bytes reading → ReadingStopsAt bytes (Unit {0}) why
 last_so_stops reading (fault.Read why) after some h bytes r = absurd h
 last_so_stops reading (fault.Write why) after some h bytes r = absurd h
 last_so_stops reading (fault.Line n) after some h bytes r = last_line_is_bad reading n some h.0 h.1 bytes r
-last_so_stops reading fault.TooMany after some h bytes r = absurd h
+last_so_stops reading fault.Subscribers after some h bytes r = absurd h
 last_so_stops reading fault.Stopped after some h bytes r = absurd h
 last_so_stops reading fault.Store after some h bytes r = absurd h
 last_so_stops reading fault.Memory after some h bytes r = tt
 
-pub last_line_stops : (reading : Reading) (line : List ℕ) (why : DriveFault) (after : Input)
+pub last_line_stops : (reading : Reading) (line : List ℕ) (why : DriveError) (after : Input)
     → line ≡ reading.line.items → reading.line.items ≢ [] → LineEndsReading reading line why after
     → (bytes : List ℕ) → IsReadUpTo bytes reading → ReadingStopsAt bytes (Unit {0}) why
 last_line_stops reading line why after same some h =
@@ -129,18 +129,18 @@ bad_there bytes A B n leads h =
     subst (λ (t : List ℕ). HasBadLine t B n) (append-nil bytes)
     (bad_stays bytes [] A B n (λ (a : A). (refl, leads a)) h)
 
-pub ends_at_stop : (why : DriveFault) (bytes : List ℕ) (A : Type 0) (r0 r : Option (List ℕ)) → (A → IsAtEnd r)
+pub ends_at_stop : (why : DriveError) (bytes : List ℕ) (A : Type 0) (r0 r : Option (List ℕ)) → (A → IsAtEnd r)
     → Consumes r0 r bytes → ReadingStopsAt bytes A why → InputEnds (Err why) r0 r
 ends_at_stop (fault.Read why) bytes A r0 r leads read h = absurd h
 ends_at_stop (fault.Write why) bytes A r0 r leads read h = absurd h
 ends_at_stop (fault.Line n) bytes A r0 r leads read h = (bytes, read, bad_there bytes A (IsAtEnd r) n leads h)
-ends_at_stop fault.TooMany bytes A r0 r leads read h = absurd h
+ends_at_stop fault.Subscribers bytes A r0 r leads read h = absurd h
 ends_at_stop fault.Stopped bytes A r0 r leads read h = absurd h
 ends_at_stop fault.Store bytes A r0 r leads read h = absurd h
 ends_at_stop fault.Memory bytes A r0 r leads read h = (bytes, read)
 
 -- a bad line within a piece
-pub ends_in_piece : (why : DriveFault) (r0 r r' : Option (List ℕ)) (old : Reading) (count : ℕ) (piece : List ℕ)
+pub ends_in_piece : (why : DriveError) (r0 r r' : Option (List ℕ)) (old : Reading) (count : ℕ) (piece : List ℕ)
     → ReadingProgress r0 r old count → Consumes r r' piece
     → ((before : List ℕ) → IsReadUpTo before old → ReadingStopsAt (before ++ piece) ⊥ why) → InputEnds (Err why) r0 r'
 ends_in_piece why r0 r r' old count piece so_far now stops =
@@ -167,7 +167,7 @@ read_ends_by_reader why r0 r r' reading count so_far kept = (
 )
 
 -- the input is at its end
-pub input_is_ended : (result : Result Input DriveFault) (r0 r r' : Option (List ℕ)) (reading : Reading)
+pub input_is_ended : (result : Result Input DriveError) (r0 r r' : Option (List ℕ)) (reading : Reading)
     (count : ℕ) → ReadingProgress r0 r reading count → Consumes r r' [] → IsAtEnd r' → EndsAfter reading result
     → InputEnds result r0 r'
 input_is_ended (Ok input) r0 r r' reading count so_far none ended h =

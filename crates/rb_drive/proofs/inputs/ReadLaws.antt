@@ -7,8 +7,8 @@ use Rattle.cs_model.specs.declared.shape.Shape.{Shape}
 use Rattle.cs_model.proofs.CallerLemmas.{all_push}
 use Rattle.rb_script.specs.Lines.{most_of_line}
 use Rattle.rb_script.specs.Script.{IsLine, ended_lines}
-use Rattle.rb_drive.specs.declared.fault.DriveFault.{DriveFault}
-use Rattle.rb_drive.specs.declared.fault.DriveFault.TheVariants as fault
+use Rattle.rb_drive.specs.declared.fault.DriveError.{DriveError}
+use Rattle.rb_drive.specs.declared.fault.DriveError.TheVariants as fault
 use Rattle.rb_drive.specs.declared.input.Given.{Given}
 use Rattle.rb_drive.specs.declared.input.Input.{Input}
 use Rattle.rb_drive.specs.declared.input.Reading.{Reading}
@@ -105,23 +105,23 @@ long_line_stops reading b n isnt long count before r =
     }
 
 -- how adding the line that is read stops, at its end
-adding_so_stops : (reading : Reading) (b : ℕ) (why : DriveFault) (after : Input) → b ≡ 10
+adding_so_stops : (reading : Reading) (b : ℕ) (why : DriveError) (after : Input) → b ≡ 10
     → AddEnds (line_given reading) reading.input (Err why) after
     → (before : List ℕ) → IsReadUpTo before reading → ReadingStopsAt (before ++ b ∷ []) ⊥ why
 adding_so_stops reading b (fault.Read why) after is h before r = absurd h
 adding_so_stops reading b (fault.Write why) after is h before r = absurd h
 adding_so_stops reading b (fault.Line n) after is h before r = line_is_bad reading b n is h.0 h.1 before r
-adding_so_stops reading b fault.TooMany after is h before r = absurd h
+adding_so_stops reading b fault.Subscribers after is h before r = absurd h
 adding_so_stops reading b fault.Stopped after is h before r = absurd h
 adding_so_stops reading b fault.Store after is h before r = absurd h
 adding_so_stops reading b fault.Memory after is h before r = tt
 
 -- adding a line to the input of a reading stops so
-abbrev pub LineEndsReading : Reading → List ℕ → DriveFault → Input → Type 0
+abbrev pub LineEndsReading : Reading → List ℕ → DriveError → Input → Type 0
 LineEndsReading reading line why after =
     AddEnds (with_line reading.input.schema reading.input.givens.items line) reading.input (Err why) after
 
-pub adding_stops : (reading : Reading) (line : List ℕ) (b : ℕ) (why : DriveFault) (after : Input)
+pub adding_stops : (reading : Reading) (line : List ℕ) (b : ℕ) (why : DriveError) (after : Input)
     → line ≡ reading.line.items → b ≡ 10 → LineEndsReading reading line why after
     → (before : List ℕ) → IsReadUpTo before reading → ReadingStopsAt (before ++ b ∷ []) ⊥ why
 adding_stops reading line b why after same is h =
@@ -157,17 +157,18 @@ bad_stays bytes more A B n ends h = record {
         inr (inl (end.1, p.1, ap (λ (t : List ℕ). t ++ more) p.2 ∙ end.0, p.3))
     by (inr (inr p)) = inr (inr p)
 
-stops_at_longer : (bytes more : List ℕ) (why : DriveFault) → ReadingStopsAt bytes ⊥ why → ReadingStopsAt (bytes ++ more) ⊥ why
+stops_at_longer : (bytes more : List ℕ) (why : DriveError) → ReadingStopsAt bytes ⊥ why
+    → ReadingStopsAt (bytes ++ more) ⊥ why
 stops_at_longer bytes more (fault.Read why) h = absurd h
 stops_at_longer bytes more (fault.Write why) h = absurd h
 stops_at_longer bytes more (fault.Line n) h = bad_stays bytes more ⊥ ⊥ n (λ (e : ⊥). absurd e) h
-stops_at_longer bytes more fault.TooMany h = absurd h
+stops_at_longer bytes more fault.Subscribers h = absurd h
 stops_at_longer bytes more fault.Stopped h = absurd h
 stops_at_longer bytes more fault.Store h = absurd h
 stops_at_longer bytes more fault.Memory h = tt
 
 -- reading stops at a byte
-pub byte_ends_reading : (old now : Reading) (bytes : List ℕ) (i : ℕ) (why : DriveFault) → i < length bytes
+pub byte_ends_reading : (old now : Reading) (bytes : List ℕ) (i : ℕ) (why : DriveError) → i < length bytes
     → ((before : List ℕ) → IsReadUpTo before old → IsReadUpTo (before ++ take i bytes) now)
     → ((before : List ℕ) → IsReadUpTo before now → ReadingStopsAt (before ++ get_or bytes i 0 ∷ []) ⊥ why)
     → (before : List ℕ) → IsReadUpTo before old → ReadingStopsAt (before ++ bytes) ⊥ why

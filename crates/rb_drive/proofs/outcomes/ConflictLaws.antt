@@ -25,10 +25,9 @@ use Rattle.rb_subscriber.specs.declared.refusal.SubscriptionError.TheVariants.{R
 use Rattle.rb_subscriber.specs.declared.shown.Shown.{Shown}
 use Rattle.rb_subscriber.proofs.accepting.AcceptLaws.{none_is_due}
 use Rattle.rb_drive.specs.declared.accepting.EndedSubscriber.{EndedSubscriber}
-use Rattle.rb_drive.specs.declared.ending.Settling.{Settling}
 use Rattle.rb_drive.specs.declared.ending.SubscriberEnd.{SubscriberEnd}
 use Rattle.rb_drive.specs.declared.ending.SubscriberEnd.TheVariants as way
-use Rattle.rb_drive.specs.Ending.{EndsByRefusal, HasShownConflict, ShowsConflict, ShowsOneConflict}
+use Rattle.rb_drive.specs.Ending.{HasShownConflict, ShowsConflict, ShowsOneConflict}
 use Rattle.rb_drive.specs.Kept.{without_store}
 use Rattle.rb_drive.specs.Outcome.{IsEndAt}
 
@@ -110,22 +109,6 @@ durable_shows cells delivery result old new answers = λ conflict shown is one.
     let before = refusal_before (own_endpoint old) delivery in
     shows_by cells delivery conflict shown old new before refl
     (answers_without cells delivery result conflict shown old new before is answers) one
-
--- a subscriber that ends by a refusal has what shows it
-ending_shows : (cells : Cells) (delivery : Delivery) (accepted : Result ℕ SubscriptionError) (s : SubscriptionState)
-    (ending : SubscriberEnd) → EndsByRefusal delivery accepted (Err ending) → ShowsOneConflict cells delivery accepted s
-    → HasShownConflict cells s ending
-ending_shows cells delivery accepted s way.Drained by shows = tt
-ending_shows cells delivery accepted s way.Stopped by shows = tt
-ending_shows cells delivery accepted s (way.Conflict conflict shown) by shows = shows conflict shown by.0 by.1
-
-pub settled_shows : (cells : Cells) (delivery : Delivery) (accepted : Result ℕ SubscriptionError) (s : SubscriptionState)
-    (settled : Result Settling SubscriberEnd) (ending : SubscriberEnd) → settled ≡ Err ending
-    → EndsByRefusal delivery accepted settled → ShowsOneConflict cells delivery accepted s
-    → HasShownConflict cells s ending
-settled_shows cells delivery accepted s settled ending is by shows =
-    ending_shows cells delivery accepted s ending
-    (subst (λ (r : Result Settling SubscriberEnd). EndsByRefusal delivery accepted r) is by) shows
 
 -- who has shown a conflict has ended as one should
 pub conflict_is_end : (cells : Cells) (placed : ℕ) (s : SubscriptionState) (ending : SubscriberEnd) (conflict : Conflict)

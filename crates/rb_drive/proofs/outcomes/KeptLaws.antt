@@ -1,5 +1,6 @@
 -- A subscription that accepts into its replica is kept by it, or has fallen.
-use Rattle.std.proofs.Common.{◌≡◌, ℕ, Option, Some, None, Result, Ok, Err, IfSome, OnErr, OnOk, ap, subst, sym, ◌∙◌}
+use Rattle.std.proofs.Common.{◌≡◌, ℕ, Option, Some, None, Result, Ok, Err, IfSome, OnErr}
+use Rattle.std.proofs.Common.{OnOk, ap, subst, sym, ◌∙◌}
 use Rattle.std.specs.FinMap as map
 use Rattle.cs_apply.specs.State.{TableState}
 use Rattle.rb_desk.specs.declared.delivery.Delivery.{Delivery}
@@ -31,7 +32,8 @@ same_unless_fallen cells delivery (durable.Accept (RefusedEntries why shown)) ol
 same_unless_fallen cells delivery (durable.Accept (Unseen n shown)) old new h none = h.0
 same_unless_fallen cells delivery (durable.Accept (Memory shown)) old new h none = h.0
 
-error_leaves : {E : Type 0} (refused : Option AcceptRefusal) (cells : Cells) (delivery : Delivery) (why : DurableError E)
+error_leaves : {E : Type 0} (refused : Option AcceptRefusal) (cells : Cells) (delivery : Delivery) (why : DurableError
+    E)
     (old new : SubscriptionState) → durable_by refused cells delivery (Err why) old new → new.pending ≡ None → new ≡ old
 error_leaves None cells delivery why old new h none = same_unless_fallen cells delivery why old new h none
 error_leaves (Some before) cells delivery why old new h none = h.1
@@ -43,7 +45,8 @@ pub still_kept : {R E : Type 0} (K : R → SubscriptionState → Type 0) (cells 
     → OnErr result (new.pending ≡ old.pending → r ≡ r0) → (old.pending ≡ None → K r0 old) → new.pending ≡ None → K r new
 still_kept K cells delivery (Ok cursor) old new r0 r answers kept unasked before none = kept
 still_kept K cells delivery (Err why) old new r0 r answers kept unasked before none =
-    let same : new ≡ old = error_leaves (refusal_before (own_endpoint old) delivery) cells delivery why old new answers none in
+    let same : new ≡ old = error_leaves (refusal_before (own_endpoint old) delivery) cells delivery why old new
+    answers none in
     let free : old.pending ≡ None = ap (λ s. s.pending) (sym same) ∙ none in
     let store : r ≡ r0 = unasked (ap (λ s. s.pending) same) in
     subst (λ x. K x new) (sym store) (subst (λ s. K r0 s) (sym same) (before free))

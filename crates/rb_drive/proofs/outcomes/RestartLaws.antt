@@ -88,7 +88,7 @@ durable_ends {E} {Kept} {Unasked} (Some why) cells d r old new answers kept unas
 
 -- ---- what the trees hold then
 
--- what it accepted is a run of the cells, and its tables are what that gives
+-- what it accepted is a run of the cells, and its tables are the result of that
 pub record IsShownRun (cells : Cells) (s : SubscriptionState) : Type 0 where
   pub shown : AreInCells cells (suc s.start) s.told
   pub grouped : HasBatchTables s.base (batches_told s.batches) (entries_told s.told) s.tables

@@ -5,8 +5,8 @@ use Rattle.cs_model.specs.declared.shape.Shape.{Shape}
 use Rattle.rb_desk.specs.Limits.{Limits}
 use Rattle.rb_sequence.specs.Cells.{Cells}
 use Rattle.rb_drive.specs.declared.accepting.EndedSubscriber.{EndedSubscriber}
-use Rattle.rb_drive.specs.declared.fault.DriveFault.{DriveFault}
-use Rattle.rb_drive.specs.declared.fault.DriveFault.TheVariants as fault
+use Rattle.rb_drive.specs.declared.fault.DriveError.{DriveError}
+use Rattle.rb_drive.specs.declared.fault.DriveError.TheVariants as fault
 use Rattle.rb_drive.specs.declared.input.Given.{Given}
 use Rattle.rb_drive.specs.Outcome.{subscriber_of}
 use Rattle.rb_drive.specs.Published.{AreByPublisher}
@@ -22,7 +22,7 @@ pub endings_same : {L : Type 0} (all : List (EndedSubscriber L))
 endings_same [] = refl
 endings_same (a ∷ all) = ap (λ xs. a.ending ∷ xs) (endings_same all)
 
-drive_ends_by : (limits : Limits) (n : ℕ) (result : Result ℕ DriveFault) (tables : List Shape) (givens : List Given)
+drive_ends_by : (limits : Limits) (n : ℕ) (result : Result ℕ DriveError) (tables : List Shape) (givens : List Given)
     (cells : Cells) (lines : List (List Given)) (r0 r w0 w : Option (List ℕ)) → ReadsInput tables givens r0 r
     → cells.capacity ≡ limits.capacity → AreByPublisher givens lines → ReportEnds cells n tables lines result w0 w
     → DriveEnds limits n result r0 r w0 w
@@ -36,11 +36,11 @@ drive_ends_by limits n (Err fault.Store) tables givens cells lines r0 r w0 w rea
     ((tables, givens, reads), h)
 drive_ends_by limits n (Err fault.Memory) tables givens cells lines r0 r w0 w reads cap own h =
     ((reads.0, reads.2), h)
-drive_ends_by limits n (Err fault.TooMany) tables givens cells lines r0 r w0 w reads cap own h = absurd h
+drive_ends_by limits n (Err fault.Subscribers) tables givens cells lines r0 r w0 w reads cap own h = absurd h
 drive_ends_by limits n (Err (fault.Line line)) tables givens cells lines r0 r w0 w reads cap own h = absurd h
 drive_ends_by limits n (Err (fault.Read why)) tables givens cells lines r0 r w0 w reads cap own h = absurd h
 
-pub ends_as_reported : (limits : Limits) (n : ℕ) (result : Result ℕ DriveFault) (tables copied : List Shape)
+pub ends_as_reported : (limits : Limits) (n : ℕ) (result : Result ℕ DriveError) (tables copied : List Shape)
     (givens : List Given) (cells : Cells) (lines : List (List Given)) (r0 r w0 w : Option (List ℕ))
     → ReadsInput tables givens r0 r → copied ≡ tables → cells.capacity ≡ limits.capacity
     → AreByPublisher givens lines → ReportEnds cells n copied lines result w0 w → DriveEnds limits n result r0 r w0 w
@@ -53,12 +53,12 @@ keeps_itself None = tt
 keeps_itself (Some bytes) = refl
 
 -- where the input is read and nothing is written, a drive ends by a fault of the threads
-pub ends_unreported : (limits : Limits) (n : ℕ) (why : DriveFault) (tables : List Shape) (givens : List Given)
+pub ends_unreported : (limits : Limits) (n : ℕ) (why : DriveError) (tables : List Shape) (givens : List Given)
     (r0 r w : Option (List ℕ)) → ReadsInput tables givens r0 r → IsOfThreads why → DriveEnds limits n (Err why) r0 r w w
 ends_unreported limits n fault.Stopped tables givens r0 r w reads is = ((tables, givens, reads), keeps_itself w)
 ends_unreported limits n fault.Store tables givens r0 r w reads is = ((tables, givens, reads), keeps_itself w)
 ends_unreported limits n fault.Memory tables givens r0 r w reads is = ((reads.0, reads.2), keeps_itself w)
-ends_unreported limits n fault.TooMany tables givens r0 r w reads is = absurd is
+ends_unreported limits n fault.Subscribers tables givens r0 r w reads is = absurd is
 ends_unreported limits n (fault.Line line) tables givens r0 r w reads is = absurd is
 ends_unreported limits n (fault.Read why) tables givens r0 r w reads is = absurd is
 ends_unreported limits n (fault.Write why) tables givens r0 r w reads is = absurd is

@@ -9,8 +9,8 @@ use Rattle.std.specs.Io.KnownBytes.{Appends, Consumes, Keeps, IsAtEnd}
 use Rattle.rb_desk.specs.Limits.{Limits}
 use Rattle.rb_script.specs.declared.answering.Answering.{Answering}
 use Rattle.rb_script.specs.declared.answering.RefusedLine.{RefusedLine}
-use Rattle.rb_script.specs.declared.fault.ScriptFault.{ScriptFault}
-use Rattle.rb_script.specs.declared.fault.ScriptFault.TheVariants.{Read, Write, Endless, Memory, Refused}
+use Rattle.rb_script.specs.declared.fault.ScriptError.{ScriptError}
+use Rattle.rb_script.specs.declared.fault.ScriptError.TheVariants.{Read, Write, Endless, Memory, Refused}
 use Rattle.rb_script.specs.Answering.{AnsweredLine, stops_after, numbered_answer, output_for, refused_line, first_stop}
 use Rattle.rb_script.specs.Answering.{answered_lines, script_output, script_stop}
 use Rattle.rb_script.specs.declared.lines.Stage.TheVariants.{Tables}
@@ -21,7 +21,8 @@ use Rattle.rb_script.specs.Script.{lines_of, whole_lines}
 use Rattle.rb_script.specs.Streams.{AppendsFront}
 use Rattle.rb_script.specs.Ends.{AreAnswered, IsAnswered, IsReadInPart, IsOverrun, HoldsOfLines, StopsAmong, IsCutOff}
 use Rattle.rb_script.specs.Ends.{IsStoppedAt, ScriptEnds, IsOfAnswers}
-use Rattle.rb_script.proofs.endings.StreamLaws.{Appends-trans, Appends-Keeps, Consumes-none, Consumes-trans, Consumes-Keeps}
+use Rattle.rb_script.proofs.endings.StreamLaws.{Appends-trans, Appends-Keeps, Consumes-none, Consumes-trans}
+use Rattle.rb_script.proofs.endings.StreamLaws.{Consumes-Keeps}
 use Rattle.rb_script.proofs.endings.StreamLaws.{stream_appends_front}
 use Rattle.rb_script.proofs.endings.OutputLaws.{output-cons, output-append, stop-append, stops_later}
 use Rattle.rb_script.proofs.whole_scripts.FedLaws.{fed-append, fed_none, fed_after_fed, fed_short}
@@ -91,10 +92,10 @@ end_goes_on how config r0 r r' w0 w w' number number' now next count piece so_fa
 }
 
 -- a flush changes nothing that is known
-pub goes_on_handed : {how : Answering} {config : Limits} {r0 r w0 w w' : Option (List ℕ)} {number : ℕ}
+pub goes_on_flushed : {how : Answering} {config : Limits} {r0 r w0 w w' : Option (List ℕ)} {number : ℕ}
     {now : ScriptPlace} {count : ℕ} → EndProgress how config r0 r w0 w number now count → Keeps w w'
     → EndProgress how config r0 r w0 w' number now count
-goes_on_handed {how} {config} {w0} {w} {w'} so_far keeps = record {
+goes_on_flushed {how} {config} {w0} {w} {w'} so_far keeps = record {
   input = so_far.input;
   read = so_far.read;
   fed = record {
@@ -114,7 +115,7 @@ number_small {config} so_far =
 
 -- ---- the ways to end
 
-pub ends_by_answers : (how : Answering) (config : Limits) (e : ScriptFault) (r0 r w0 w : Option (List ℕ))
+pub ends_by_answers : (how : Answering) (config : Limits) (e : ScriptError) (r0 r w0 w : Option (List ℕ))
     → IsOfAnswers e → IsCutOff how config r0 r w0 w → ScriptEnds {A = Unit {0}} how config (Err e) r0 r w0 w
 ends_by_answers how config (Read why) r0 r w0 w is h = absurd is
 ends_by_answers how config (Write why) r0 r w0 w is h = h
@@ -132,10 +133,10 @@ among_by P Q r0 r leads h = (h.0, h.1, by h.2)
     by (inr p) = inr (p.0, p.1, leads (lines_of h.0) p.2)
 
 -- lines among which answering stops with this fault
-abbrev StopsAt : Answering → Limits → ScriptFault → Option (List ℕ) → Option (List ℕ) → List (List ℕ) → Type 0
+abbrev StopsAt : Answering → Limits → ScriptError → Option (List ℕ) → Option (List ℕ) → List (List ℕ) → Type 0
 StopsAt how config e w0 w lines = StopsIn how 1 (answered_lines config (Tables []) lines) e w0 w
 
-ends_by_stop : (how : Answering) (config : Limits) (e : ScriptFault) (r0 r w0 w : Option (List ℕ))
+ends_by_stop : (how : Answering) (config : Limits) (e : ScriptError) (r0 r w0 w : Option (List ℕ))
     → StopsAmong (StopsAt how config e w0 w) r0 r → ScriptEnds {A = Unit {0}} how config (Err e) r0 r w0 w
 ends_by_stop how config (Read why) r0 r w0 w h = absurd (nowhere h.2)
   where
@@ -162,7 +163,7 @@ cut_kept how config r0 r w0 w w' h keeps =
     (λ lines p. front_kept w0 w w' (script_output how config lines) p keeps) h
 
 -- a flush after a fault changes nothing that is known
-pub fault_kept : (how : Answering) (config : Limits) (e : ScriptFault) (r0 r w0 w w' : Option (List ℕ))
+pub fault_kept : (how : Answering) (config : Limits) (e : ScriptError) (r0 r w0 w w' : Option (List ℕ))
     → ScriptEnds {A = Unit {0}} how config (Err e) r0 r w0 w → Keeps w w'
     → ScriptEnds {A = Unit {0}} how config (Err e) r0 r w0 w'
 fault_kept how config (Read why) r0 r w0 w w' h keeps =
@@ -184,7 +185,7 @@ fault_kept how config (Refused line) r0 r w0 w w' h keeps =
     (λ lines p. (p.0, Appends-Keeps w0 w w' (script_output how config lines) p.1 keeps)) h
 
 -- the flush after a refused line fails
-pub refused_unflushed : (how : Answering) (config : Limits) (line : RefusedLine) (e : ScriptFault)
+pub refused_unflushed : (how : Answering) (config : Limits) (line : RefusedLine) (e : ScriptError)
     (r0 r w0 w w' : Option (List ℕ)) → IsStoppedAt how config line r0 r w0 w → Keeps w w' → IsOfAnswers e
     → ScriptEnds {A = Unit {0}} how config (Err e) r0 r w0 w'
 refused_unflushed how config line e r0 r w0 w w' h keeps is =
@@ -195,7 +196,7 @@ refused_unflushed how config line e r0 r w0 w w' h keeps is =
     (stream_appends_front w0 w (script_output how config lines) p.1) keeps) h)
 
 -- at the end of the input the flush may fail
-pub answered_kept : (how : Answering) (config : Limits) (result : Result (Unit {0}) ScriptFault)
+pub answered_kept : (how : Answering) (config : Limits) (result : Result (Unit {0}) ScriptError)
     (r0 r w0 w w' : Option (List ℕ)) → IsAnswered how config r0 r w0 w → Keeps w w' → IfErr result IsOfAnswers
     → ScriptEnds how config result r0 r w0 w'
 answered_kept how config (Ok done) r0 r w0 w w' h keeps is =
@@ -239,7 +240,7 @@ read_in_part r' {how} {config} {r0} {r} {w0} {w} {number} {now} so_far within ke
     )
 
 -- answering stops in a piece, or in its part within the limit
-stop_in_piece : (how : Answering) (config : Limits) (e : ScriptFault) (r0 r r' w0 w w' : Option (List ℕ)) (number : ℕ)
+stop_in_piece : (how : Answering) (config : Limits) (e : ScriptError) (r0 r r' w0 w w' : Option (List ℕ)) (number : ℕ)
     (now : ScriptPlace) (count : ℕ) (piece more : List ℕ) → EndProgress how config r0 r w0 w number now count
     → Consumes r r' (piece ++ more) → StopsIn how number (fed_lines config now piece) e w w'
     → ((xs : List ℕ) → length xs ≡ count + length piece → take 16777216 (xs ++ more) ≡ xs)
@@ -263,7 +264,7 @@ stop_in_piece how config e r0 r r' w0 w w' number now count piece more so_far re
           (sym all ∙ whole_is config (input ++ piece)) here)),
     )
 
-pub stop_within : (r' w' : Option (List ℕ)) {how : Answering} {config : Limits} (e : ScriptFault)
+pub stop_within : (r' w' : Option (List ℕ)) {how : Answering} {config : Limits} (e : ScriptError)
     {r0 r w0 w : Option (List ℕ)} {number : ℕ} {now : ScriptPlace} {count : ℕ} (n : ℕ) (piece : List ℕ)
     → EndProgress how config r0 r w0 w number now count → Consumes r r' (take n piece) → n ≤ length piece
     → StopsIn how number (fed_lines config now (take n piece)) e w w' → count + n ≤ 16777216
@@ -275,7 +276,7 @@ stop_within r' w' {how} {config} e {r0} {r} {w0} {w} {number} {now} {count} n pi
     (λ xs whole. ap (λ (t : List ℕ). take 16777216 t) (append-nil xs)
     ∙ take_all 16777216 xs (omega (arith, whole, len, within)))
 
-pub stop_at_limit : (r' w' : Option (List ℕ)) {how : Answering} {config : Limits} (e : ScriptFault)
+pub stop_at_limit : (r' w' : Option (List ℕ)) {how : Answering} {config : Limits} (e : ScriptError)
     {r0 r w0 w : Option (List ℕ)} {number : ℕ} {now : ScriptPlace} {count : ℕ} (n : ℕ) (piece : List ℕ)
     → EndProgress how config r0 r w0 w number now count → Consumes r r' (take n piece) → n ≤ length piece
     → StopsIn how number (fed_lines config now (take (16777216 - count) piece)) e w w' → count ≤ 16777216
@@ -289,8 +290,9 @@ stop_at_limit r' w' {how} {config} e {r0} {r} {w0} {w} {number} {now} {count} n 
     ∙ take-append_seam xs (over_limit count n piece))
 
 -- answering stops at the last line
-pub stop_at_end : (r' w' : Option (List ℕ)) {how : Answering} {config : Limits} (e : ScriptFault)
-    {r0 r w0 w : Option (List ℕ)} {number : ℕ} {now : ScriptPlace} {count : ℕ} → EndProgress how config r0 r w0 w number now count
+pub stop_at_end : (r' w' : Option (List ℕ)) {how : Answering} {config : Limits} (e : ScriptError)
+    {r0 r w0 w : Option (List ℕ)} {number : ℕ} {now : ScriptPlace} {count : ℕ}
+    → EndProgress how config r0 r w0 w number now count
     → Consumes r r' [] → IsAtEnd r' → count ≤ 16777216 → StopsIn how number (line_at config now ∷ []) e w w'
     → ScriptEnds {A = Unit {0}} how config (Err e) r0 r' w0 w'
 stop_at_end r' w' {how} {config} e {r0} {r} {w0} {w} {number} {now} so_far read end within stops =
@@ -340,7 +342,8 @@ all_answered r' w' {how} {config} {r0} {r} {w0} {w} {number} {now} so_far read e
     )
 
 pub overruns : (r' : Option (List ℕ)) {how : Answering} {config : Limits} {r0 r w0 w w' : Option (List ℕ)}
-    {number number' : ℕ} {now next : ScriptPlace} {count : ℕ} (n : ℕ) (bytes : List ℕ) → EndProgress how config r0 r w0 w number now count
+    {number number' : ℕ} {now next : ScriptPlace} {count : ℕ} (n : ℕ) (bytes : List ℕ)
+    → EndProgress how config r0 r w0 w number now count
     → Consumes r r' (take n bytes) → n ≤ length bytes
     → AreFed how config number now (take (16777216 - count) bytes) w w' number' next → count ≤ 16777216
     → 16777216 - count < n → IsOverrun how config r0 r' w0 w'

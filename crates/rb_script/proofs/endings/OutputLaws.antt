@@ -7,8 +7,8 @@ use Rattle.std.proofs.lemmas.Option.{none-some}
 use Rattle.std.specs.Io.KnownBytes.{Appends}
 use Rattle.rb_script.specs.declared.answering.Answering.{Answering}
 use Rattle.rb_script.specs.declared.answering.RefusedLine.{RefusedLine}
-use Rattle.rb_script.specs.declared.fault.ScriptFault.{ScriptFault}
-use Rattle.rb_script.specs.declared.fault.ScriptFault.TheVariants.{Read, Write, Endless, Memory, Refused}
+use Rattle.rb_script.specs.declared.fault.ScriptError.{ScriptError}
+use Rattle.rb_script.specs.declared.fault.ScriptError.TheVariants.{Read, Write, Endless, Memory, Refused}
 use Rattle.rb_script.specs.Answering.{AnsweredLine, stops_after, up_to_stop, numbered_answer, numbered_answers}
 use Rattle.rb_script.specs.Answering.{output_for, refused_line, first_stop}
 use Rattle.rb_script.specs.Feeding.{StopsIn}
@@ -105,7 +105,7 @@ output-one how n a = by (stops_after how a)
     by false = append-nil (numbered_answer how n a.answer)
 
 -- writing it fails, or memory runs out
-pub stops_writing_line : (how : Answering) (n : ℕ) (a : AnsweredLine) (e : ScriptFault) (w0 w : Option (List ℕ))
+pub stops_writing_line : (how : Answering) (n : ℕ) (a : AnsweredLine) (e : ScriptError) (w0 w : Option (List ℕ))
     → IsOfAnswers e → AppendsFront w0 w (numbered_answer how n a.answer) → StopsIn how n (a ∷ []) e w0 w
 stops_writing_line how n a (Read why) w0 w is h = absurd is
 stops_writing_line how n a (Write why) w0 w is h = rw (output-one how n a) h
@@ -114,7 +114,7 @@ stops_writing_line how n a Memory w0 w is h = rw (output-one how n a) h
 stops_writing_line how n a (Refused line) w0 w is h = absurd is
 
 -- more lines come after those among which it stops
-pub stops_longer : (how : Answering) (n : ℕ) (xs bs : List AnsweredLine) (e : ScriptFault) (w0 w : Option (List ℕ))
+pub stops_longer : (how : Answering) (n : ℕ) (xs bs : List AnsweredLine) (e : ScriptError) (w0 w : Option (List ℕ))
     → StopsIn how n xs e w0 w → StopsIn how n (xs ++ bs) e w0 w
 stops_longer how n xs bs (Read why) w0 w h = absurd h
 stops_longer how n xs bs (Write why) w0 w h = longer_front w0 w _ _ h (output-front how n xs bs)
@@ -125,13 +125,13 @@ stops_longer how n xs bs (Refused line) w0 w h =
     (stays.0, subst (λ (t : List ℕ). Appends w0 w t) (sym stays.1) h.1)
 
 -- it stops among lines after others
-pub stops_later : (how : Answering) (n m : ℕ) (xs bs : List AnsweredLine) (e : ScriptFault)
+pub stops_later : (how : Answering) (n m : ℕ) (xs bs : List AnsweredLine) (e : ScriptError)
     (w0 w w' : Option (List ℕ)) → first_stop how n xs ≡ None → Appends w0 w (output_for how n xs)
     → m ≡ n + length xs → StopsIn how m bs e w w' → StopsIn how n (xs ++ bs) e w0 w'
 stops_later how n m xs bs e w0 w w' none said counted h =
     by e (subst (λ (k : ℕ). StopsIn how k bs e w w') counted h)
   where
-    by : (e : ScriptFault) → StopsIn how (n + length xs) bs e w w' → StopsIn how n (xs ++ bs) e w0 w'
+    by : (e : ScriptError) → StopsIn how (n + length xs) bs e w w' → StopsIn how n (xs ++ bs) e w0 w'
     by (Read why) h = absurd h
     by (Write why) h = rw (output-append how n xs bs none) (front_later w0 w w' _ _ said h)
     by Endless h = absurd h

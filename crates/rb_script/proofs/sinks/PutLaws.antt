@@ -1,7 +1,7 @@
 -- What `write_pieces` puts is what the sink's writer holds.
 use Rattle.std.proofs.Common.{◌≡◌, ℕ, Bool, true, false, List, [], ◌++◌, Option, Result, Ok, Err, OnOk, OnErr, ◌∙◌, sym}
 use Rattle.std.proofs.Common.{arith, ap, subst, true≢false, Some, None, MatchOption}
-use Rattle.rb_script.specs.declared.fault.ScriptFault.{ScriptFault}
+use Rattle.rb_script.specs.declared.fault.ScriptError.{ScriptError}
 use Rattle.rb_script.specs.Ends.{IsOfAnswers}
 use Rattle.std.specs.Io.KnownBytes.{Appends, Keeps}
 use Rattle.cs_write.specs.declared.pieces.WriteError.{WriteError}
@@ -41,7 +41,7 @@ on_err_front (Err Memory) text to t fo f before w0 w none unfailed same front pu
     unchanged text t f before w0 w (puts.0 ∙ none) (puts.1 ∙ unfailed) same front
 
 pub on_err_fault : (r : Result (Unit {0}) WriteError) (text : List ℕ)
-    (taken_old taken failed_old failed : List (List ℕ)) (fault : Option ScriptFault)
+    (taken_old taken failed_old failed : List (List ℕ)) (fault : Option ScriptError)
     → MatchOption fault (failed ≡ []) IsOfAnswers → Puts r 4096 text taken_old taken failed_old failed → r ≡ Err Sink
     → MatchOption fault ⊥ IsOfAnswers
 on_err_fault r text to t fo f (Some why) sound puts is = sound

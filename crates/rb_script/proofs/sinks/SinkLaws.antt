@@ -3,7 +3,7 @@ use Rattle.std.proofs.Common.{◌≡◌, ℕ, true, false, true≢false, List, [
 use Rattle.std.proofs.Common.{sym, ap, subst, ◌∙◌, append_assoc}
 use Rattle.std.specs.Prelude.{is_some}
 use Rattle.std.proofs.lemmas.List.{append-nil}
-use Rattle.rb_script.specs.declared.fault.ScriptFault.{ScriptFault}
+use Rattle.rb_script.specs.declared.fault.ScriptError.{ScriptError}
 use Rattle.rb_script.specs.Ends.{IsOfAnswers}
 use Rattle.std.proofs.lemmas.List.Folds.{concat-append}
 use Rattle.std.specs.List.{concat}
@@ -18,20 +18,20 @@ use Rattle.rb_script.proofs.sinks.GainLaws.{appends_gains, all_appended, front_g
 
 -- ---- whether there is a fault
 
-pub still_sound : (fault : Option ScriptFault) (P Q : Type 0) → true ≡ is_some fault → MatchOption fault P IsOfAnswers
+pub still_sound : (fault : Option ScriptError) (P Q : Type 0) → true ≡ is_some fault → MatchOption fault P IsOfAnswers
     → MatchOption fault Q IsOfAnswers
 still_sound None P Q some h = absurd (true≢false some)
 still_sound (Some why) P Q some h = h
 
-pub is_unfaulted : (fault : Option ScriptFault) (P : Type 0) → fault ≡ None → P → MatchOption fault P IsOfAnswers
+pub is_unfaulted : (fault : Option ScriptError) (P : Type 0) → fault ≡ None → P → MatchOption fault P IsOfAnswers
 is_unfaulted fault P none h = subst (λ f. MatchOption f P IsOfAnswers) (sym none) h
 
-pub now_failed : (fault : Option ScriptFault) (P : Type 0) → MatchOption fault ⊥ IsOfAnswers
+pub now_failed : (fault : Option ScriptError) (P : Type 0) → MatchOption fault ⊥ IsOfAnswers
     → MatchOption fault P IsOfAnswers
 now_failed None P h = absurd h
 now_failed (Some why) P h = h
 
-pub none_failed : (fault : Option ScriptFault) (P : Type 0) → false ≡ is_some fault → MatchOption fault P IsOfAnswers
+pub none_failed : (fault : Option ScriptError) (P : Type 0) → false ≡ is_some fault → MatchOption fault P IsOfAnswers
     → P
 none_failed None P none h = h
 none_failed (Some why) P none h = absurd (true≢false (sym none))

@@ -8,8 +8,8 @@ use Rattle.std.proofs.lemmas.List.{append-nil, take_more}
 use Rattle.std.specs.Io.KnownBytes.{Appends}
 use Rattle.rb_desk.specs.Limits.{Limits}
 use Rattle.rb_script.specs.declared.answering.Answering.{Answering}
-use Rattle.rb_script.specs.declared.fault.ScriptFault.{ScriptFault}
-use Rattle.rb_script.specs.declared.fault.ScriptFault.TheVariants.{Memory}
+use Rattle.rb_script.specs.declared.fault.ScriptError.{ScriptError}
+use Rattle.rb_script.specs.declared.fault.ScriptError.TheVariants.{Memory}
 use Rattle.rb_script.specs.declared.lines.Stage.{Stage}
 use Rattle.rb_script.specs.Answering.{AnsweredLine, stops_after, numbered_answer, output_for, refused_line, first_stop}
 use Rattle.rb_script.specs.Feeding.{AreFed, StopsIn, fed_lines, line_at, line_ending}
@@ -162,7 +162,7 @@ split_at_byte bytes i lt = ap (λ (t : List ℕ). take i bytes ++ t) (sym (drop-
 
 -- answering stops at a line
 pub line_stops : (how : Answering) (config : Limits) (n m : ℕ) (place now : ScriptPlace) (bytes : List ℕ) (i : ℕ)
-    (e : ScriptFault) (w0 w w' : Option (List ℕ)) → i < length bytes
+    (e : ScriptError) (w0 w w' : Option (List ℕ)) → i < length bytes
     → AreFed how config n place (take i bytes) w0 w m now → get_or bytes i 0 ≡ 10
     → StopsIn how m (line_at config now ∷ []) e w w' → StopsIn how n (fed_lines config place bytes) e w0 w'
 line_stops how config n m place now bytes i e w0 w w' lt fed is stops =

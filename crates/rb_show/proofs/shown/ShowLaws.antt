@@ -6,8 +6,8 @@ use Rattle.std.specs.Option.{option_and_then}
 use Rattle.std.proofs.lemmas.List.{append-nil}
 use Rattle.std.specs.Io.KnownBytes.{Appends}
 use Rattle.rb_show.specs.declared.row_form.RowForm.{RowForm}
-use Rattle.rb_show.specs.declared.show_fault.ShowFault.{ShowFault}
-use Rattle.rb_show.specs.declared.show_fault.ShowFault.TheVariants.{Read, Write, Row, Memory}
+use Rattle.rb_show.specs.declared.show_fault.ShowError.{ShowError}
+use Rattle.rb_show.specs.declared.show_fault.ShowError.TheVariants.{Read, Write, Row, Memory}
 use Rattle.rb_show.specs.Shown.{ShownTables, bytes_with_front, bytes_of_words, line_shown, lines_shown}
 use Rattle.rb_show.specs.Shown.{shown_before}
 use Rattle.rb_show.specs.Showing.{IsShown, ShowsLines}
@@ -75,7 +75,7 @@ line_goes_on form given tables tables' number next line rest more w0 w w' cut is
     w0 w w' (subst (λ (r : List (List ℕ)). AreShown given (lines_shown form tables number r) w0 w) cut so_far) h)
 
 pub line_stops_show : (form : RowForm) (given : List ℕ × Option ℕ) (tables tables' : ShownTables)
-    (number : ℕ) (line : List ℕ) (rest more : List (List ℕ)) (fault : ShowFault) (w0 w w' : Option (List ℕ))
+    (number : ℕ) (line : List ℕ) (rest more : List (List ℕ)) (fault : ShowError) (w0 w w' : Option (List ℕ))
     → rest ≡ line ∷ more → AreShown given (lines_shown form tables number rest) w0 w
     → ShowsLine {A = Unit {0}} (Err fault) number (line_shown form tables line) tables' w w'
     → ShowsLines {A = Unit {0}} (Err fault) given w0 w'

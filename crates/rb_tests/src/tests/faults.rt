@@ -3,7 +3,7 @@
 
 use crate::tests::streams::Failing;
 use rb_core::Config;
-use rb_script::{Answering, ScriptFault, run_script};
+use rb_script::{Answering, ScriptError, run_script};
 use std::alloc::Global;
 use std::io;
 use std::io::{ErrorKind, Write};
@@ -115,7 +115,7 @@ fn reads_so_far(rt: &impl Abort, alloc: Global, read: &[u8]) -> Result<(), Fail>
         Answering::plain(),
     );
     match run {
-        Err(ScriptFault::Read(_)) => {}
+        Err(ScriptError::Read(_)) => {}
         Err(fault) => return Err(fault.into()),
         Ok(()) => return Err(Fail::new("the reader fails")),
     }
@@ -138,7 +138,7 @@ fn writes_so_far(rt: &impl Abort, alloc: Global, room: usize) -> Result<(), Fail
         Answering::plain(),
     );
     match run {
-        Err(ScriptFault::Write(why)) => assert_eq!(rt; why.kind(), ErrorKind::TimedOut),
+        Err(ScriptError::Write(why)) => assert_eq!(rt; why.kind(), ErrorKind::TimedOut),
         Err(fault) => return Err(fault.into()),
         Ok(()) => return Err(Fail::new("the writer fails")),
     }

@@ -1,7 +1,7 @@
 //! Readers and writers that fail, are interrupted, or wait for answers.
 
 use rb_core::Config;
-use rb_script::{Answering, ScriptFault, run_script};
+use rb_script::{Answering, ScriptError, run_script};
 use rb_show::{RowForm, show};
 use std::alloc::Global;
 use std::cell::Cell;
@@ -214,7 +214,7 @@ fn run_plainly<R: Read, W: Write>(
     alloc: Global,
     reader: &mut R,
     writer: &mut W,
-) -> Result<(), ScriptFault> {
+) -> Result<(), ScriptError> {
     run_script(
         alloc,
         reader,
@@ -241,7 +241,7 @@ fn stops(rt: HostRuntime) -> Result<(), Fail> {
     let endless = run_plainly(alloc, &mut Unending, &mut nothing);
     stopped(&rt, alloc, endless, "script too long")?;
     assert!(rt; nothing.is_empty());
-    let memory = format!(in alloc; "{}", ScriptFault::Memory)?;
+    let memory = format!(in alloc; "{}", ScriptError::Memory)?;
     assert_eq!(rt; memory.as_str(), "out of memory");
     Ok(())
 }
@@ -300,7 +300,7 @@ fn write_faults_carry_their_reason(rt: HostRuntime) -> Result<(), Fail> {
 }
 
 #[test]
-fn answers_are_handed_on_behind_a_fault(rt: HostRuntime) -> Result<(), Fail> {
+fn answers_are_flushed_after_a_fault(rt: HostRuntime) -> Result<(), Fail> {
     let alloc = rt.alloc();
     let answered = Cell::new(0);
     let mut writer = Telling {

@@ -4,7 +4,7 @@ use cs_apply::{Conflict, ConflictKind};
 use cs_parse::{FaultKind, ParseFault};
 use rb_core::{BrokerRefusal, Reply};
 use rb_desk::{DeskError, DeskRefusal};
-use rb_script::ScriptFault;
+use rb_script::ScriptError;
 use rb_subscriber::{AcceptError, AcceptRefusal};
 use std::alloc::Global;
 use std::fmt::Display;
@@ -103,7 +103,7 @@ fn brokers_say_why(rt: HostRuntime) -> Result<(), Fail> {
         (BrokerRefusal::Holding, "a changeset is staged already"),
         (BrokerRefusal::NothingStaged, "nothing is staged"),
         (BrokerRefusal::Closed, "the sequence is closed"),
-        (BrokerRefusal::Full, "as many changesets wait as may"),
+        (BrokerRefusal::Full, "the intake is full"),
         (BrokerRefusal::NotPlaced, "there is no such entry"),
         (BrokerRefusal::NotYours, "the entry is another publisher's"),
         (
@@ -132,7 +132,7 @@ fn errors_say_the_refusal_or_memory(rt: HostRuntime) -> Result<(), Fail> {
     says(&rt, alloc, &[refused, (DeskError::Memory, MEMORY)])?;
     let refused = (AcceptError::Refused(AcceptRefusal::Seen), SEEN);
     says(&rt, alloc, &[refused, (AcceptError::Memory, MEMORY)])?;
-    says(&rt, alloc, &[(ScriptFault::Memory, MEMORY)])
+    says(&rt, alloc, &[(ScriptError::Memory, MEMORY)])
 }
 
 #[test]

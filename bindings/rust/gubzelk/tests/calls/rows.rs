@@ -46,7 +46,7 @@ fn one_row() {
     assert_eq!(broker.row(subscription, 1, &Key::new().blob(b"ab").integer(7)), Ok(None));
     assert_eq!(broker.row(subscription, 2, &key), Err(Error::NoTable));
     assert_eq!(broker.row(subscription, usize::MAX, &key), Err(Error::NoTable));
-    assert_eq!(broker.row(SubscriptionId(1), 0, &key), Err(Error::NoSubscription));
+    assert_eq!(broker.row(SubscriptionId(1), 0, &key), Err(Error::NoSuch));
 }
 
 #[test]

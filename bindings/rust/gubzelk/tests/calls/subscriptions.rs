@@ -184,12 +184,12 @@ fn at_most_1024_subscriptions() {
 fn no_such_subscription() {
     let (mut broker, _, _) = begun(1);
     for none in [SubscriptionId(1), SubscriptionId(u64::MAX)] {
-        assert_eq!(broker.take(none, 0), Err(Error::NoSubscription));
-        assert_eq!(broker.cursor(none), Err(Error::NoSubscription));
-        assert_eq!(broker.status(none), Err(Error::NoSubscription));
-        assert_eq!(broker.reconnect(none, 0), Err(Error::NoSubscription));
-        assert_eq!(broker.resume(none), Err(Error::NoSubscription));
-        assert_eq!(broker.unsubscribe(none), Err(Error::NoSubscription));
-        assert_eq!(broker.rows(none), Err(Error::NoSubscription));
+        assert_eq!(broker.take(none, 0), Err(Error::NoSuch));
+        assert_eq!(broker.cursor(none), Err(Error::NoSuch));
+        assert_eq!(broker.status(none), Err(Error::NoSuch));
+        assert_eq!(broker.reconnect(none, 0), Err(Error::NoSuch));
+        assert_eq!(broker.resume(none), Err(Error::NoSuch));
+        assert_eq!(broker.unsubscribe(none), Err(Error::NoSuch));
+        assert_eq!(broker.rows(none), Err(Error::NoSuch));
     }
 }

@@ -1,12 +1,13 @@
 use Rattle.std.proofs.Common.{◌≤◌, Err, IfErr, ap, map, rules, subst, sym, ◌∙◌}
 use Rattle.std.proofs.lemmas.Result.{err_from_is_err_and}
 use Rattle.rb_drive.specs.Published.{AreByNumber, HaveSentLines, unsent_lines}
-use Rattle.rb_drive.proofs.outcomes.DriveLaws.{HaveEnded, all_begin_empty, all_have_ended, all_keep_headline, many_are_back}
+use Rattle.rb_drive.proofs.outcomes.DriveLaws.{HaveEnded, all_begin_empty, all_have_ended, all_keep_headline}
+use Rattle.rb_drive.proofs.outcomes.DriveLaws.{many_are_back}
 use Rattle.rb_drive.proofs.outcomes.ConflictLaws.{AllShowTheirEnd}
 use Rattle.rb_drive.proofs.outcomes.DriveLaws.{placed_fit}
 use Rattle.rb_drive.proofs.outcomes.OwnerLaws.{lines_come_to}
 use Rattle.rb_drive.specs.Run.{IsOfThreads}
-use Rattle.rb_drive.specs.declared.fault.DriveFault.{DriveFault}
+use Rattle.rb_drive.specs.declared.fault.DriveError.{DriveError}
 use Rattle.rb_drive.proofs.drive.end.Goals as goal
 
 -- the publishers aren't taken apart
@@ -14,7 +15,7 @@ pub returns-in_err-publishers-clause-err : goal.returns-in_err-publishers-clause
 returns-in_err-publishers-clause-err g c =
     let back = c.from_residual-in_err-publishers in
     let p = err_from_is_err_and back.result back.ensures.1 in
-    subst (λ r. IfErr r IsOfThreads) (sym (p.1 ∙ ap (λ (e : DriveFault). Err e) p.2)) c.in_err-publishers.ensures.err
+    subst (λ r. IfErr r IsOfThreads) (sym (p.1 ∙ ap (λ (e : DriveError). Err e) p.2)) c.in_err-publishers.ensures.err
 
 -- those that are closed have what shows their conflicts
 pub all_ended-requires : goal.all_ended-requires

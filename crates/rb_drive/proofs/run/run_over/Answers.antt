@@ -1,6 +1,6 @@
 use Rattle.std.proofs.Common.{rules}
 use Rattle.std.proofs.lemmas.Result.{err_from_is_err_and}
-use Rattle.rb_drive.specs.declared.fault.DriveFault.TheVariants.{Memory}
+use Rattle.rb_drive.specs.declared.fault.DriveError.TheVariants.{Memory}
 use Rattle.rb_drive.proofs.inputs.InputLaws.{publishers_few}
 use Rattle.rb_drive.proofs.outcomes.RunLaws.{ends_as_reported, ends_unreported}
 use Rattle.rb_drive.proofs.run.run_over.Goals as goal

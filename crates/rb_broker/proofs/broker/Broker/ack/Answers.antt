@@ -9,5 +9,7 @@ pub returns-clause-desk : goal.returns-clause-desk
 returns-clause-desk g c =
     let s = c.args.subscription.now in
     let h = c.ack.ensures in
-    returns g.L.Hall.limits c.ack.result (λ p. ack p s.sub c.args.delivery.now.link c.args.delivery.now.number (cursor_of s))
-    (step.Ack s.sub c.args.delivery.now.link c.args.delivery.now.number (cursor_of s)) _ _ _ _ _ _ h.others h.held h.log h.seen h.desk
+    returns g.L.BrokerBrand.limits c.ack.result (λ p. ack p s.sub c.args.delivery.now.link c.args.delivery.now.number
+    (cursor_of s))
+    (step.Ack s.sub c.args.delivery.now.link c.args.delivery.now.number (cursor_of s)) _ _ _ _ _ _ h.others h.held
+    h.log h.seen h.desk

@@ -8,5 +8,5 @@ use Rattle.rb_broker.proofs.broker.Broker.expire.Goals as goal
 pub returns : goal.returns
 returns g c =
     let h = c.expire.ensures in
-    laws.returns g.L.Hall.limits c.expire.result (λ p. (Ok (expire p c.args.now).0, (expire p c.args.now).1))
+    laws.returns g.L.BrokerBrand.limits c.expire.result (λ p. (Ok (expire p c.args.now).0, (expire p c.args.now).1))
     (step.Expire c.args.now) _ _ _ _ _ _ h.others h.held h.log h.seen h.desk

@@ -8,5 +8,7 @@ pub returns-clause-desk : goal.returns-clause-desk
 returns-clause-desk g c =
     let s = c.args.subscription.now in
     let h = c.nack_opened.ensures in
-    returns g.L.Hall.limits c.nack_opened.result (λ p. nack_opened p s.sub c.args.delivery.now.link c.args.delivery.now.number)
-    (step.NackOpened s.sub c.args.delivery.now.link c.args.delivery.now.number) _ _ _ _ _ _ h.others h.held h.log h.seen h.desk
+    returns g.L.BrokerBrand.limits c.nack_opened.result (λ p. nack_opened p s.sub c.args.delivery.now.link
+    c.args.delivery.now.number)
+    (step.NackOpened s.sub c.args.delivery.now.link c.args.delivery.now.number) _ _ _ _ _ _ h.others h.held h.log
+    h.seen h.desk

@@ -16,17 +16,19 @@ place-requires g c =
 pub returns-then-number-capacity-clause-desk : goal.returns-then-number-capacity-clause-desk
 returns-then-number-capacity-clause-desk g c =
     let h = c.refuses.ensures in
-    subst (λ why. DeskRefuses g.L.Hall.limits g.L.StepLedger.cells c.args.number why c.args.placer.now c.refuses.new.placer)
+    subst (λ why. DeskRefuses g.L.BrokerBrand.limits g.L.StepLedger.cells c.args.number why c.args.placer.now
+    c.refuses.new.placer)
     (ap (λ (r : RefusedItem). r.why) (sym c.refused.ensures))
-    (told_of_desk g.L.Hall.limits g.L.StepLedger.cells c.args.number c.refuses.result _ _ _ _ h.others h.held.0
+    (told_of_desk g.L.BrokerBrand.limits g.L.StepLedger.cells c.args.number c.refuses.result _ _ _ _ h.others h.held.0
     (h.seen ∙ ap (has_seen c.args.placer.now) h.log) h.why)
 
 pub returns-in-Ok-ready-clause-desk : goal.returns-in-Ok-ready-clause-desk
 returns-in-Ok-ready-clause-desk g c =
     subst (λ (e : Entry). IfErr c.place.result
-    (λ refused. DeskRefuses g.L.Hall.limits g.L.StepLedger.cells e.number refused.why c.args.placer.now c.place.new.placer))
+    (λ refused. DeskRefuses g.L.BrokerBrand.limits g.L.StepLedger.cells e.number refused.why c.args.placer.now
+    c.place.new.placer))
     (c.in-Ok-ready.ensures.ok.1 ∙ c.new-entry.ensures)
-    (placing_refuses g.L.Hall.limits c.place.result g.L.StepLedger.cells c.in-Ok-ready.ready.entry _ _ _ _ _ _
+    (placing_refuses g.L.BrokerBrand.limits c.place.result g.L.StepLedger.cells c.in-Ok-ready.ready.entry _ _ _ _ _ _
     c.place.ensures.others c.place.ensures.held c.place.ensures.log c.place.ensures.seen c.place.ensures.placed)
 
 -- the item comes back, with what the refusal shows
@@ -40,5 +42,5 @@ returns-in-Ok-ready-clause-err g c =
 -- the desk that the lock holds has placed the number
 pub returns-in-Ok-ready-clause-placed : goal.returns-in-Ok-ready-clause-placed
 returns-in-Ok-ready-clause-placed g c =
-    placing_places g.L.Hall.limits c.place.result g.L.StepLedger.cells _ _ _ _ _ _ _ c.place.ensures.others
+    placing_places g.L.BrokerBrand.limits c.place.result g.L.StepLedger.cells _ _ _ _ _ _ _ c.place.ensures.others
     c.place.ensures.held c.place.ensures.log c.place.ensures.seen c.place.ensures.placed

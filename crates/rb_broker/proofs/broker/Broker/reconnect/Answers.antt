@@ -9,5 +9,5 @@ pub returns-clause-desk : goal.returns-clause-desk
 returns-clause-desk g c =
     let s = c.args.subscription.now in
     let h = c.reconnect.ensures in
-    returns g.L.Hall.limits c.reconnect.result (λ p. reconnect p s.sub (cursor_of s))
+    returns g.L.BrokerBrand.limits c.reconnect.result (λ p. reconnect p s.sub (cursor_of s))
     (step.Reconnect s.sub (cursor_of s)) _ _ _ _ _ _ h.others h.held h.log h.seen h.desk

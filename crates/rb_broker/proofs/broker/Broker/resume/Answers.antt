@@ -13,10 +13,12 @@ returns-clause-refused g c =
 pub returns-clause-link : goal.returns-clause-link
 returns-clause-link g c =
     let h = c.resume.ensures in
-    link_returns g.L.Hall.limits c.resume.result c.args.lost c.args.tables c.args.cursor _ _ _ _ h.others h.held h.log h.ok h.made
+    link_returns g.L.BrokerBrand.limits c.resume.result c.args.lost c.args.tables c.args.cursor _ _ _ _ h.others
+    h.held h.log h.ok h.made
 
 pub returns-clause-desk : goal.returns-clause-desk
 returns-clause-desk g c =
     let h = c.resume.ensures in
-    refusal_returns g.L.Hall.limits c.resume.result c.args.lost c.args.tables c.args.cursor _ _ _ _ h.others h.held h.log h.err
+    refusal_returns g.L.BrokerBrand.limits c.resume.result c.args.lost c.args.tables c.args.cursor _ _ _ _ h.others
+    h.held h.log h.err
     h.made

@@ -10,5 +10,6 @@ returns-clause-refused g c =
 pub returns-clause-desk : goal.returns-clause-desk
 returns-clause-desk g c =
     let h = c.subscribe.ensures in
-    subscribes_after g.L.Hall.limits c.subscribe.result c.args.tables c.args.start _ _ _ _ _ _ h.others h.held h.log h.seen h.own
+    subscribes_after g.L.BrokerBrand.limits c.subscribe.result c.args.tables c.args.start _ _ _ _ _ _ h.others h.held
+    h.log h.seen h.own
     h.made

@@ -10,5 +10,5 @@ pub returns-clause-desk : goal.returns-clause-desk
 returns-clause-desk g c =
     let s = c.args.subscription.now in
     let h = c.take.ensures in
-    returns g.L.Hall.limits (desk_answer c.take.result) (λ p. take p s.sub s.link (cursor_of s) c.args.now)
+    returns g.L.BrokerBrand.limits (desk_answer c.take.result) (λ p. take p s.sub s.link (cursor_of s) c.args.now)
     (step.Take s.sub s.link (cursor_of s) c.args.now) _ _ _ _ _ _ h.others h.held h.log h.seen h.desk

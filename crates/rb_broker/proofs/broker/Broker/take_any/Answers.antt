@@ -7,5 +7,5 @@ use Rattle.rb_broker.proofs.broker.Broker.take_any.Goals as goal
 pub returns : goal.returns
 returns g c =
     let h = c.take_any.ensures in
-    laws.returns g.L.Hall.limits c.take_any.result (λ p. take_any p c.args.now) (step.TakeAny c.args.now)
+    laws.returns g.L.BrokerBrand.limits c.take_any.result (λ p. take_any p c.args.now) (step.TakeAny c.args.now)
     _ _ _ _ _ _ h.others h.held h.log h.seen h.desk

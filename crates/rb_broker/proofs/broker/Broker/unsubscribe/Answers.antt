@@ -8,5 +8,5 @@ pub returns-clause-desk : goal.returns-clause-desk
 returns-clause-desk g c =
     let s = c.args.subscription.now in
     let h = c.unsubscribe.ensures in
-    returns g.L.Hall.limits c.unsubscribe.result (λ p. unsubscribe p s.sub s.link)
+    returns g.L.BrokerBrand.limits c.unsubscribe.result (λ p. unsubscribe p s.sub s.link)
     (step.Unsubscribe s.sub s.link) _ _ _ _ _ _ h.others h.held h.log h.seen h.desk

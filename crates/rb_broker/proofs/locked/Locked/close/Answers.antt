@@ -35,7 +35,8 @@ invariant_of-self g c = record {
   total = c.args.self.now.total;
   made = c.args.self.now.made;
   name = ap (λ (h : Chronicle Step). h.name) c.catch_up.ensures.same ∙ c.args.self.now.name;
-  replays = c.args.self.now.replays ∙ ap (λ (h : Chronicle Step). desk_after g.L.Hall.limits h.log) (sym c.catch_up.ensures.same);
+  replays = c.args.self.now.replays ∙ ap (λ (h : Chronicle Step). desk_after g.L.BrokerBrand.limits h.log) (sym
+      c.catch_up.ensures.same);
 }
 
 -- the closing cell shows the front, which is the closing number now
@@ -61,13 +62,14 @@ invariant_of-self-2 g c =
       closes = (
         ap (λ n. Some n) (shown ∙ sym at_front.0) ∙ sym at_front.1
             ∙ ap (λ (x : ℕ × Picture). x.1.closing) answer,
-        ap (λ (t : LastToken). t.cell) c.again-2.ensures ∙ c.in-Ok.ensures.ok.0 ∙ ap (λ (s : Cells). s.closing) old.fills,
+        ap (λ (t : LastToken). t.cell) c.again-2.ensures ∙ c.in-Ok.ensures.ok.0 ∙ ap (λ (s : Cells). s.closing)
+            old.fills,
       );
       all = old.all;
       total = omega (arith, old.total, counts, steps);
       made = old.made ∙ sym (ap (λ (x : ℕ × Picture). length x.1.subscriptions) (sym answer) ∙ keeps.1);
       name = named_still grows old.name;
-      replays = as_replayed g.L.Hall.limits new c.append.new.all.log
+      replays = as_replayed g.L.BrokerBrand.limits new c.append.new.all.log
           (c.close.ensures.steps ∙ ap (λ (o : Option ℕ). old.desk.steps ++ closing_steps o) (sym open_)
           ∙ ap (λ (d : JournaledPicture). d.steps ++ Close ∷ []) old.replays
           ∙ sym (steps_snoc old.history.log (c.catch_up.new.self.number, Close)) ∙ ap steps_made (sym (logged grows)))

@@ -24,11 +24,13 @@ invariant_of-self g c =
     let fits = c.only_subscribe_and_close.ensures.subscribe old.desk.picture c.args.start c.in-Ok.sub c.in-Ok.link ok in
     let others = c.only_subscribe_and_close.ensures.subscribe_else old.desk.picture c.args.start in
     let step = c.in-Ok.ensures.1 in
-    let counts = c.steps_are_counted.ensures.own old.desk (Subscribe c.args.start) (subscribe old.desk.picture c.args.start).1 in
+    let counts = c.steps_are_counted.ensures.own old.desk (Subscribe c.args.start) (subscribe old.desk.picture
+    c.args.start).1 in
     let counted = ap (λ (d : JournaledPicture). counted_steps is_own d.steps) step in
     let total = ap (λ (r : RegisterState). r.total) c.subscribe-in-Ok.ensures.made in
     let made = ap (λ (r : RegisterState). r.made) c.subscribe-in-Ok.ensures.made in
-    let grows : GrowsBy c.catch_up.new.self.number (Subscribe c.args.start) old.history c.catch_up.new.all c.enroll-own.new.all =
+    let grows : GrowsBy c.catch_up.new.self.number (Subscribe c.args.start) old.history c.catch_up.new.all
+    c.enroll-own.new.all =
     record { same = c.catch_up.ensures.same; named = c.enroll-own.ensures.name; log = c.enroll-own.ensures.log } in
     let length_is = ap (λ (d : JournaledPicture). length d.picture.subscriptions) step in
     record {
@@ -43,7 +45,8 @@ invariant_of-self g c =
       total = omega (arith, total, old.total, counts, counted);
       made = omega (arith, made, old.made, fits.2, length_is);
       name = named_still grows old.name;
-      replays = one_step_on g.L.Hall.limits old.desk c.subscribe.new.self (Subscribe c.args.start)
-          (subscribe old.desk.picture c.args.start).1 old.history.log c.enroll-own.new.all.log c.catch_up.new.self.number
+      replays = one_step_on g.L.BrokerBrand.limits old.desk c.subscribe.new.self (Subscribe c.args.start)
+          (subscribe old.desk.picture c.args.start).1 old.history.log c.enroll-own.new.all.log
+          c.catch_up.new.self.number
           old.replays step others.0 c.steps-steps.ensures.replay (logged grows);
     }
