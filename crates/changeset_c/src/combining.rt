@@ -71,10 +71,7 @@ fn grouped<'a>(
     for (text, changeset) in changesets.iter().enumerate() {
         match group.add_text(changeset) {
             Ok(()) => {}
-            Err(GroupError::Schema { section }) => return Err(CombineError::Clash {
-                text,
-                section,
-            }),
+            Err(GroupError::Clash { section }) => return Err(CombineError::Clash { text, section }),
             Err(GroupError::Memory) => return Err(CombineError::Memory),
         }
     }

@@ -9,7 +9,7 @@ use Rattle.cs_model.specs.declared.value.Field.{Field}
 use Rattle.cs_model.specs.declared.value.Field.TheVariants.{Undefined, Is}
 use Rattle.cs_model.specs.declared.row_key.RowKey.{RowKey}
 use Rattle.cs_apply.specs.declared.conflict.Conflict.{Conflict as Conflicts}
-use Rattle.cs_apply.specs.declared.places.Step.{Step}
+use Rattle.cs_apply.specs.declared.places.UndoStep.{UndoStep}
 use Rattle.cs_apply.specs.declared.places.Places.{Places}
 use Rattle.cs_apply.specs.State.{Rows}
 use Rattle.cs_apply.specs.Effect.{effect, same_value}
@@ -51,7 +51,7 @@ set_at zero row (e ∷ es) = (e.0, row) ∷ es
 set_at (suc place) row (e ∷ es) = e ∷ set_at place row es
 
 -- the places after the steps are undone, the last of them first
-abbrev pub undone : List Step → Entries → Entries
+abbrev pub undone : List UndoStep → Entries → Entries
 undone [] es = es
 undone (step ∷ log) es = set_at step.place step.back (undone log es)
 
@@ -89,7 +89,7 @@ abbrev pub empty_with : ℕ → Option (List Value) → ℕ
 empty_with empty None = empty - 1
 empty_with empty (Some back) = min (empty + 1) (2 ^ 64 - 1)
 
-abbrev pub empty_after : ℕ → List Step → ℕ
+abbrev pub empty_after : ℕ → List UndoStep → ℕ
 empty_after empty [] = empty
 empty_after empty (step ∷ steps) = empty_after (empty_with empty step.back) steps
 

@@ -24,7 +24,7 @@ use std::mem::replace;
 
 /// A logged step: the index of its place, and the row that was there before, if any.
 #[derive(Debug, Drop)]
-pub(crate) struct Step {
+pub(crate) struct UndoStep {
     place: usize,
     back: Option<Row>,
 }
@@ -34,7 +34,7 @@ pub(crate) struct Step {
 pub(crate) struct Places {
     pub(crate) rows: IndexMap<RowKey, Option<Row>>,
     // Empty between two changesets; keeps its capacity for the next.
-    log: Vec<Step>,
+    log: Vec<UndoStep>,
     // The approximate number of empty places. It only decides when to sweep them.
     pub(crate) empty: usize,
 }
@@ -159,7 +159,7 @@ impl Places {
         self.log.reserve(1)?;
         if let Some(found) = self.rows.get_index_mut(place) {
             let back = replace(found, row);
-            self.log.push_reserved(Step { place, back });
+            self.log.push_reserved(UndoStep { place, back });
         }
         Ok(())
     }
@@ -201,11 +201,11 @@ impl Places {
     }
 
     // Undoes one step.
-    fn step_back(&mut self, step: Step)
+    fn step_back(&mut self, step: UndoStep)
         ensures rows { self.new.rows.entries ≡ set_at step.place step.back self.old.rows.entries }
         ensures log { self.new.log.items ≡ self.old.log.items }
     {
-        let Step { place, back } = step;
+        let UndoStep { place, back } = step;
         if let Some(found) = self.rows.get_index_mut(place) {
             *found = back;
         }
@@ -253,7 +253,7 @@ fn add_copy(
 }
 
 // The approximate number of empty places after these steps.
-fn counted(empty: usize, log: &[Step]) -> usize
+fn counted(empty: usize, log: &[UndoStep]) -> usize
     ensures { result ≡ empty_after empty log.now }
 {
     let mut count = empty;

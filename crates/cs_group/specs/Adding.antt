@@ -6,19 +6,19 @@ use Rattle.cs_model.specs.declared.shape.Shape.{Shape}
 use Rattle.cs_model.specs.Schema.{same_bytes, same_shape}
 use Rattle.cs_model.specs.Section.{Section}
 use Rattle.cs_group.specs.declared.error.GroupError.{GroupError}
-use Rattle.cs_group.specs.declared.error.GroupError.TheVariants.{Schema, Memory}
+use Rattle.cs_group.specs.declared.error.GroupError.TheVariants.{Clash, Memory}
 use Rattle.cs_group.specs.Group.{clashes, first_clash}
 
 -- an error reports the first section that can't be combined with those before it, or that memory
 -- ran out and there is none
 abbrev pub ReportsClash : GroupError → Option ℕ → Type 0
-ReportsClash (Schema section) clash = clash ≡ Some section
+ReportsClash (Clash section) clash = clash ≡ Some section
 ReportsClash Memory clash = clash ≡ None
 
 -- the same of private functions, which don't look for a clash once memory ran out
-abbrev pub ReportsIfSchema : GroupError → Option ℕ → Type 0
-ReportsIfSchema (Schema section) clash = clash ≡ Some section
-ReportsIfSchema Memory clash = Unit {0}
+abbrev pub ReportsIfClash : GroupError → Option ℕ → Type 0
+ReportsIfClash (Clash section) clash = clash ≡ Some section
+ReportsIfClash Memory clash = Unit {0}
 
 -- the sections of changesets, one changeset's after another's
 abbrev pub sections_in : List (List Section) → List Section

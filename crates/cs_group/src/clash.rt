@@ -3,7 +3,7 @@
 //! sections.
 
 ghost use Rattle.std.specs.Prelude.{◌≡◌, ◌++◌, [], take};
-ghost use Rattle.cs_group.specs.Adding.{ReportsClash, ReportsIfSchema, first_refused};
+ghost use Rattle.cs_group.specs.Adding.{ReportsClash, ReportsIfClash, first_refused};
 ghost use Rattle.cs_group.specs.Adding.{sections_in};
 ghost use Rattle.cs_group.specs.Group.{clashes, differs_from, first_clash};
 
@@ -94,7 +94,7 @@ fn error_of(clash: Option<usize>) -> GroupError
     ensures { ReportsClash result clash }
 {
     match clash {
-        Some(section) => GroupError::Schema { section },
+        Some(section) => GroupError::Clash { section },
         None => GroupError::Memory,
     }
 }
@@ -106,22 +106,22 @@ pub(crate) fn error_of_one(
     added: &[SectionRef],
     sections: &SectionRefs,
 ) -> GroupError
-    requires { ReportsIfSchema error (first_clash added.now sections.now) }
+    requires { ReportsIfClash error (first_clash added.now sections.now) }
     ensures { ReportsClash result (first_clash added.now sections.now) }
 {
     match error {
-        GroupError::Schema { .. } => error,
+        GroupError::Clash { .. } => error,
         GroupError::Memory => error_of(first_clash_in(added, &[], sections)),
     }
 }
 
 /// The same for combining these changesets.
 pub(crate) fn error_of_all(error: GroupError, changesets: &[Changeset]) -> GroupError
-    requires { ReportsIfSchema error (first_refused [] changesets.now) }
+    requires { ReportsIfClash error (first_refused [] changesets.now) }
     ensures { ReportsClash result (first_refused [] changesets.now) }
 {
     match error {
-        GroupError::Schema { .. } => error,
+        GroupError::Clash { .. } => error,
         GroupError::Memory => error_of(first_refused_of(changesets)),
     }
 }

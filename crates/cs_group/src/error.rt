@@ -12,7 +12,7 @@ pub enum GroupError {
     /// This section's table has the name of an earlier one's, and another number of columns or
     /// other key flags. The number is the section's index in its changeset, from 0.
     #[error("section {section} has another shape than an earlier section of its table")]
-    Schema { section: usize },
+    Clash { section: usize },
     /// Out of memory; no section clashes.
     #[error("out of memory")]
     Memory,

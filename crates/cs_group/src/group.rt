@@ -4,7 +4,7 @@ ghost use Rattle.std.specs.Prelude.{◌≡◌, ◌++◌, [], None, IfErr, IfOk, 
 ghost use Rattle.std.specs.Prelude.{take};
 ghost use Rattle.cs_model.specs.{Changeset.{IsChangeset}, Section.{Section}};
 ghost use Rattle.cs_write.specs.{Buffer.{given}, Text.{text_of}};
-ghost use Rattle.cs_group.specs.Adding.{Knows, ReportsClash, ReportsIfSchema, first_refused};
+ghost use Rattle.cs_group.specs.Adding.{Knows, ReportsClash, ReportsIfClash, first_refused};
 ghost use Rattle.cs_group.specs.{Adding.{sections_in}, Group.{first_clash, group_of}};
 
 use crate::clash::{error_of_all, error_of_one};
@@ -51,7 +51,7 @@ impl<'a> Group<'a> {
 
     /// Adds a changeset. Works as `sqlite3changegroup_add`.
     ///
-    /// Returns `Schema` with the first section whose table has the name of an earlier section's and
+    /// Returns `Clash` with the first section whose table has the name of an earlier section's and
     /// another shape, or `Memory` if there is none and memory runs out. An `Err` does not change
     /// the group.
     pub fn add(&mut self, changeset: &'a Changeset) -> Result<(), GroupError>
@@ -124,7 +124,7 @@ fn take_in<'a>(
     ensures fits { OnOk result (Knows added.old.items tables.old.entries
         → first_clash added.old.items sections.entry ≡ None) }
     ensures refused { IfErr result (λ e. Knows added.old.items tables.old.entries
-        → ReportsIfSchema e (first_clash added.old.items sections.entry)) }
+        → ReportsIfClash e (first_clash added.old.items sections.entry)) }
     ensures kept { take (length tables.old.entries) tables.new.entries ≡ tables.old.entries }
     ensures front { take (length added.old.items) added.new.items ≡ added.old.items }
 {
@@ -150,7 +150,7 @@ fn push_all<'a>(
 
 /// Combines changesets into one: the `output` of a group of them.
 ///
-/// Returns the `Schema` of the first `add` that finds a clash, or `Memory` if no section clashes
+/// Returns the `Clash` of the first `add` that finds a clash, or `Memory` if no section clashes
 /// and memory runs out.
 pub fn combine(alloc: Global, changesets: &[Changeset]) -> Result<Changeset, GroupError>
     ensures ok { IfOk result (λ made. made ≡ group_of (sections_in changesets.now)) }
@@ -167,7 +167,7 @@ pub fn combine(alloc: Global, changesets: &[Changeset]) -> Result<Changeset, Gro
 fn grouped<'a>(alloc: Global, changesets: &'a [Changeset]) -> Result<Group<'a>, GroupError>
     ensures ok { IfOk result (λ group. group ≡ sections_in changesets.now) }
     ensures fits { OnOk result (first_refused [] changesets.now ≡ None) }
-    ensures refused { IfErr result (λ e. ReportsIfSchema e (first_refused [] changesets.now)) }
+    ensures refused { IfErr result (λ e. ReportsIfClash e (first_refused [] changesets.now)) }
 {
     let mut group = Group::new(alloc);
     for changeset in changesets {

@@ -3,7 +3,7 @@
 ghost use Rattle.std.specs.Prelude.{◌≡◌, ◌++◌, ◌∷◌, [], None, IfErr, IfOk, List, OnOk, length};
 ghost use Rattle.std.specs.Prelude.{false, not, take};
 ghost use Rattle.cs_model.specs.Section.{Section};
-ghost use Rattle.cs_group.specs.Adding.{Knows, ReportsIfSchema, differs_by, known_as};
+ghost use Rattle.cs_group.specs.Adding.{Knows, ReportsIfClash, differs_by, known_as};
 ghost use Rattle.cs_group.specs.Group.{clashes, first_clash};
 
 use crate::error::GroupError;
@@ -42,12 +42,12 @@ pub(crate) fn admit_all<'a>(
     ensures fits { OnOk result ((earlier : List Section) → Knows earlier tables.old.entries
         → first_clash earlier sections.now ≡ None) }
     ensures refused { IfErr result (λ e. (earlier : List Section) → Knows earlier tables.old.entries
-        → ReportsIfSchema e (first_clash earlier sections.now)) }
+        → ReportsIfClash e (first_clash earlier sections.now)) }
     ensures kept { take (length tables.old.entries) tables.new.entries ≡ tables.old.entries }
 {
     for (section, part) in sections.iter().enumerate() {
         if !admit(tables, part.shape())? {
-            return Err(GroupError::Schema { section });
+            return Err(GroupError::Clash { section });
         }
     }
     Ok(())

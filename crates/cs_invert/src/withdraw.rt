@@ -17,7 +17,7 @@ use std::alloc::{AllocError, Global};
 /// back, also after others that have no change of its rows (`laws::withdrawing_undoes`). The
 /// inverse alone can conflict if the changeset has several changes of a row.
 ///
-/// Returns `Schema` with the first section whose table has the name of an earlier section's and
+/// Returns `Clash` with the first section whose table has the name of an earlier section's and
 /// another shape, or `Memory` if there is none and memory runs out.
 pub fn withdrawal(alloc: Global, changeset: &Changeset) -> Result<Changeset, GroupError>
     ensures ok { IfOk result (λ made. made ≡ withdrawal_of changeset.now) }
@@ -42,6 +42,6 @@ pub fn withdrawal_agreeing(alloc: Global, changeset: &Changeset) -> Result<Chang
     match withdrawal(alloc, changeset) {
         Ok(made) => Ok(made),
         Err(GroupError::Memory) => Err(AllocError),
-        Err(GroupError::Schema { .. }) => unreachable!(),
+        Err(GroupError::Clash { .. }) => unreachable!(),
     }
 }

@@ -47,7 +47,7 @@ pub trait DurableRows {
 
 /// Why `commit_durably` did not commit. The tables are as before the call.
 #[derive(Debug, Drop)]
-pub enum NotCommitted<E> {
+pub enum RefusedCommit<E> {
     /// Memory ran out. The store wasn't asked.
     Memory,
     /// The store answered with this error. It has the rows and the cursor from before the call, or
@@ -63,7 +63,7 @@ pub fn commit_durably<S: DurableRows>(
     store: &mut S,
     plan: RowPlan,
     cursor: u64,
-) -> Result<(), NotCommitted<S::Error>>
+) -> Result<(), RefusedCommit<S::Error>>
     requires fit { RowsFit tables.old (planned_changes plan) }
     requires kept { (at : ℕ) × S.keeps store.old tables.old.rows at }
     ensures ok { OnOk result (tables.new ≡ changed_tables tables.old (planned_changes plan)) }
@@ -90,7 +90,7 @@ fn commit_places<S: DurableRows>(
     store: &mut S,
     plan: RowPlan,
     cursor: u64,
-) -> Result<(), NotCommitted<S::Error>>
+) -> Result<(), RefusedCommit<S::Error>>
     requires fit { RowsFit tables.old.state (planned_changes plan) }
     requires kept { (at : ℕ) × S.keeps store.old tables.old.state.rows at }
     ensures ok { OnOk result (tables.new ≡ changed_places tables.old (planned_changes plan)) }
@@ -108,13 +108,13 @@ fn commit_places<S: DurableRows>(
         (overlaid tables.old.state.rows (planned_changes plan)) cursor) }
 {
     let Ok(staged) = stage(alloc, tables, plan) else {
-        return Err(NotCommitted::Memory);
+        return Err(RefusedCommit::Memory);
     };
     match store.commit(staged.changes(), cursor) {
         Ok(()) => {
             staged.commit(tables);
             Ok(())
         }
-        Err(why) => Err(NotCommitted::Store(staged.undo(tables), why)),
+        Err(why) => Err(RefusedCommit::Store(staged.undo(tables), why)),
     }
 }

@@ -17,10 +17,10 @@ mod whole;
 mod worker;
 
 pub use distinct::RowChange;
-pub use durable::{DurableRows, NotCommitted, commit_durably};
+pub use durable::{DurableRows, RefusedCommit, commit_durably};
 pub use gate::{Gate, Open};
 pub use planned::{RowPlan, plan_changes};
 pub use positions::split;
 pub use shard::shard_of;
-pub use staged::{NotStaged, StagedPlan, stage};
+pub use staged::{RefusedStage, StagedPlan, stage};
 pub use whole::apply_split;

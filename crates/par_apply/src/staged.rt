@@ -28,7 +28,7 @@ pub struct StagedPlan {
 /// Out of memory in `stage`, and the plan.
 #[derive(Debug, Drop, Error)]
 #[error("out of memory")]
-pub struct NotStaged {
+pub struct RefusedStage {
     pub plan: RowPlan,
 }
 
@@ -67,8 +67,12 @@ impl StagedPlan {
 /// Makes a place for each key of the plan that gets a row and has no place. Then
 /// `StagedPlan::commit` needs no memory, and `StagedPlan::undo` gives back the tables as they were.
 ///
-/// If memory runs out, the tables are unchanged, and `NotStaged` hands the plan back.
-pub fn stage(alloc: Global, tables: &mut HeldTables, plan: RowPlan) -> Result<StagedPlan, NotStaged>
+/// If memory runs out, the tables are unchanged, and `RefusedStage` hands the plan back.
+pub fn stage(
+    alloc: Global,
+    tables: &mut HeldTables,
+    plan: RowPlan,
+) -> Result<StagedPlan, RefusedStage>
     requires { RowsFit tables.old.state (planned_changes plan) }
     ensures changes { IfOk result (λ staged. changes_staged staged ≡ planned_changes plan) }
     ensures state { OnOk result (tables.new.state ≡ tables.old.state) }
@@ -80,7 +84,7 @@ pub fn stage(alloc: Global, tables: &mut HeldTables, plan: RowPlan) -> Result<St
     let mut made = Vec::new(alloc);
     if hold_all(alloc, tables, &plan.changes.list, &mut made).is_err() {
         take_back(tables, &plan.changes.list, made);
-        return Err(NotStaged { plan });
+        return Err(RefusedStage { plan });
     }
     let RowPlan { changes } = plan;
     Ok(StagedPlan { changes, made })

@@ -11,18 +11,18 @@ use Rattle.cs_parse.specs.declared.end.EndError.{EndError}
 use Rattle.rb_sequence.specs.Cells.{Cells, CellToken, IsLastToken, IsTokenOf}
 use Rattle.rb_sequence.specs.Entry.{Entry}
 use Rattle.rb_broker.specs.Publishers.{PublisherView, StagedView}
-use Rattle.rb_broker.specs.declared.refusal.SendRefusal.{SendRefusal}
-use Rattle.rb_broker.specs.declared.refusal.SendRefusal.TheVariants as send
+use Rattle.rb_broker.specs.declared.refusal.RefusedSend.{RefusedSend}
+use Rattle.rb_broker.specs.declared.refusal.RefusedSend.TheVariants as send
 use Rattle.rb_broker.specs.declared.refusal.WithdrawError.{WithdrawError}
 use Rattle.rb_broker.specs.declared.refusal.WithdrawError.TheVariants as withdraw
 
 -- the set comes back; a closed sequence shows its last number
-abbrev pub SendsNothing : {L : Type 0} → Cells → StagedView → SendRefusal L → Type 0
+abbrev pub SendsNothing : {L : Type 0} → Cells → StagedView → RefusedSend L → Type 0
 SendsNothing cells set (send.Closed last back) = IsLastToken cells last × (back ≡ set)
 SendsNothing cells set (send.Full back) = back ≡ set
 
 -- Where the sequence is closed, the publisher keeps the token. Else it is as before.
-abbrev pub KeepsClosing : {L : Type 0} → PublisherView → PublisherView → SendRefusal L → Type 0
+abbrev pub KeepsClosing : {L : Type 0} → PublisherView → PublisherView → RefusedSend L → Type 0
 KeepsClosing old new (send.Closed last back) = new ≡ record old { closing = Some last }
 KeepsClosing old new (send.Full back) = new ≡ old
 

@@ -22,7 +22,7 @@ use crate::broker::Broker;
 use crate::refusal::{RefusedResume, RefusedSubscription, ResumeError, SubscribeError, TakeError};
 use cs_apply::Tables;
 use rb_desk::{Delivery, DeskError};
-use rb_subscriber::{Auditor, Lost, Missing, Stake, Subscription};
+use rb_subscriber::{Auditor, Lost, RefusedAudit, Stake, Subscription};
 use std::alloc::Global;
 use std::sync::Wait;
 
@@ -283,14 +283,14 @@ impl<L: BrokerBrand> Broker<L> {
     /// and more. Each of these subscriptions had seen all of its own steps in it, with their kinds
     /// and operands.
     ///
-    /// Returns `Missing`, with the subscriptions, exactly if the auditor has not heard all that
-    /// were made, with these. The auditor has seen the history all the same.
+    /// Returns `RefusedAudit`, with the subscriptions, exactly if the auditor has not heard all
+    /// that were made, with these. The auditor has seen the history all the same.
     pub fn audit<R: Wait>(
         &self,
         rt: &R,
         auditor: &mut Auditor<L>,
         subscriptions: Vec<Subscription<L>>,
-    ) -> Result<u64, Missing<L>>
+    ) -> Result<u64, RefusedAudit<L>>
         ensures sum { IfOk result (λ sum. sum ≡ auditor.new.sum) }
         ensures journal { IfOk result (λ sum.
             sum ≡ counted_steps is_own (steps_made auditor.new.seen)) }

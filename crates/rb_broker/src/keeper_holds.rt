@@ -17,7 +17,7 @@ use crate::refusal::{RefusedSubscription, SubscribeError};
 use cs_apply::Tables;
 use rb_desk::laws::{only_subscribe_and_close, steps_are_counted};
 use rb_desk::{Delivery, DeskError, Step};
-use rb_subscriber::{Auditor, Missing, Stake, Subscription};
+use rb_subscriber::{Auditor, RefusedAudit, Stake, Subscription};
 use std::alloc::Global;
 
 impl<L: BrokerBrand> Locked<L> {
@@ -116,7 +116,7 @@ impl<L: BrokerBrand> Locked<L> {
         &mut self,
         auditor: &mut Auditor<L>,
         subscriptions: Vec<Subscription<L>>,
-    ) -> Result<u64, Missing<L>>
+    ) -> Result<u64, RefusedAudit<L>>
         ensures journal { IfOk result (λ sum. sum ≡ counted_steps is_own self.old.desk.steps) }
         ensures sum { IfOk result (λ sum. sum ≡ auditor.new.sum) }
         ensures heard { OnOk result (auditor.new

@@ -23,7 +23,7 @@ pub use maker::{MOST_PUBLISHERS, PublisherMaker};
 pub use opened::Opened;
 pub use publisher::Publisher;
 pub use refusal::{
-    AddError, Occupied, PlaceError, RefusedItem, RefusedResume, RefusedSubscription, ResumeError,
-    SendRefusal, SubscribeError, TakeError, WithdrawError,
+    AddError, Occupied, PlaceError, RefusedItem, RefusedResume, RefusedSend, RefusedSubscription,
+    ResumeError, SubscribeError, TakeError, WithdrawError,
 };
 pub use staged::StagedSet;

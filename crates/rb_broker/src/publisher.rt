@@ -15,7 +15,7 @@ ghost use Rattle.rb_sequence.specs.Cells.{IsLastToken, LastToken};
 
 use crate::brand::BrokerBrand;
 use crate::broker::Broker;
-use crate::refusal::{SendRefusal, WithdrawError};
+use crate::refusal::{RefusedSend, WithdrawError};
 use crate::staged::StagedSet;
 use cs_group::laws::{admitted_agree, agreeing_never_clash};
 use cs_invert::withdrawal_agreeing;
@@ -150,7 +150,7 @@ impl<L: BrokerBrand> Publisher<L> {
         rt: &R,
         broker: &Broker<L>,
         set: StagedSet<L>,
-    ) -> Result<u64, SendRefusal<L>>
+    ) -> Result<u64, RefusedSend<L>>
         requires { set.publisher ≡ self.old.number }
         ensures own { IfOk result (λ own. own ≡ suc (length self.old.sent)) }
         ensures ok { IfOk result (λ own. self.new
@@ -159,14 +159,14 @@ impl<L: BrokerBrand> Publisher<L> {
         ensures back { IfErr result (SendsNothing L.cells set) }
         // Once it answered `Closed`, it does so for good.
         ensures lasts { (told : LastToken) → self.old.closing ≡ Some told
-            → result ≡ Err (SendRefusal.Closed told set) }
+            → result ≡ Err (RefusedSend.Closed told set) }
     {
         if let Some(last) = self.find_closing(broker) {
-            return Err(SendRefusal::Closed(last, set));
+            return Err(RefusedSend::Closed(last, set));
         }
         // 2^64 sendings never happen
         let Some(own) = self.pass.sent().checked_add(1) else {
-            return Err(SendRefusal::Full(set));
+            return Err(RefusedSend::Full(set));
         };
         let StagedSet {
             publisher,
@@ -178,7 +178,7 @@ impl<L: BrokerBrand> Publisher<L> {
         let item = Item::new(publisher, own, origin, body);
         match broker.intake.push(rt, &mut self.pass, item) {
             Ok(()) => Ok(own),
-            Err(item) => Err(SendRefusal::Full(StagedSet {
+            Err(item) => Err(RefusedSend::Full(StagedSet {
                 publisher,
                 origin,
                 body: item.into_body(),

@@ -59,7 +59,7 @@ pub struct RefusedItem {
 
 /// Why `Publisher::send` sends nothing. The set comes back.
 #[derive(Drop)]
-pub enum SendRefusal<L: BrokerBrand> {
+pub enum RefusedSend<L: BrokerBrand> {
     /// The sequence is closed. The token shows its last number. The publisher keeps a copy, and
     /// refuses each later set so.
     Closed(ToldLast, StagedSet<L>),

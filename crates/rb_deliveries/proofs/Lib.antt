@@ -1,6 +1,6 @@
 -- The spans of one subscription: how numbers are cut, and what a call changes.
 pub mod spans
--- The orders computed from tickets, and the tournaments that find the first in them at once.
+-- The orders computed from ranks, and the tournaments that find the first in them at once.
 pub mod orders
 -- What is stored of subscriptions agrees with the front, the turns and the deliveries, and still does after a call.
 pub mod subs

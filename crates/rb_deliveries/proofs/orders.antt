@@ -1,4 +1,4 @@
--- The orders computed from tickets, and the tournaments that find the first in them at once.
+-- The orders computed from ranks, and the tournaments that find the first in them at once.
 pub mod Line
 pub mod OrderLaws
 pub mod CandidateLaws

@@ -1,5 +1,5 @@
 pub mod Spans
-pub mod Lanes
+pub mod Queues
 pub mod Tournament
 pub mod Taken
 pub mod Orders

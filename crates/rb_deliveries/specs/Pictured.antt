@@ -2,7 +2,7 @@
 use Rattle.std.specs.Prelude.{ℕ, ◌≤◌, List, map, length}
 use Rattle.std.specs.List.{AllByRecursion}
 use Rattle.rb_deliveries.specs.declared.sub.Sub.{Sub}
-use Rattle.rb_deliveries.specs.Lanes.{lane_floor, most_numbers, spans_of}
+use Rattle.rb_deliveries.specs.Queues.{queue_floor, most_numbers, spans_of}
 use Rattle.rb_deliveries.specs.Orders.{order, ready_at, out_at}
 use Rattle.rb_deliveries.specs.Picture.{DeliveryPicture, Subscription}
 use Rattle.rb_deliveries.specs.Subs.{Belongs, sub_held}
@@ -10,7 +10,7 @@ use Rattle.rb_deliveries.specs.Subs.{Belongs, sub_held}
 abbrev pub pictured_sub : ℕ → ℕ → Sub → Subscription
 pictured_sub batch front sub = record {
   start = sub.start;
-  floor = lane_floor sub.lane;
+  floor = queue_floor sub.queue;
   offered = sub.offered;
   link = sub.link;
   closed = sub.closed;

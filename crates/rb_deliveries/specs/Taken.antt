@@ -1,5 +1,5 @@
 -- How the spans of a subscription that were taken before are stored: as records under keys, in
--- three lists of keys. The first lane has the ready ones by their tickets, and those in flight by
+-- three lists of keys. The first lane has the ready ones by their ranks, and those in flight by
 -- their deliveries' numbers; the second lane has all of them by their own numbers.
 use Rattle.std.specs.Prelude.{◌≡◌, ℕ, ◌<◌, Bool, true, false, ◌&&◌, nat_eq, ◌==◌, List, [], ◌∷◌}
 use Rattle.std.specs.Prelude.{length, map, Option, Some, None, IsSome, slice_index_or, slice_set}
@@ -9,10 +9,10 @@ use Rattle.link_lists.specs.Lanes.{Lanes, ChangesSlot, StandsIn, pushed_back, pu
 use Rattle.link_lists.specs.Lanes.{value_under, without_key}
 use Rattle.rb_deliveries.specs.declared.span.Status.{Status}
 use Rattle.rb_deliveries.specs.declared.span.Status.TheVariants.{Ready, InFlight}
-use Rattle.rb_deliveries.specs.declared.ticket.Ticket.{Ticket}
-use Rattle.rb_deliveries.specs.declared.ticket.Held.{Held}
+use Rattle.rb_deliveries.specs.declared.rank.Rank.{Rank}
+use Rattle.rb_deliveries.specs.declared.rank.Held.{Held}
 use Rattle.rb_deliveries.specs.Expiry.{expired_by}
-use Rattle.rb_deliveries.specs.Lanes.{earlier}
+use Rattle.rb_deliveries.specs.Queues.{earlier}
 use Rattle.rb_deliveries.specs.Spans.{is_due, is_ready, is_out}
 use Rattle.rb_deliveries.specs.Subs.{ComesLast, IsNewest}
 
@@ -24,13 +24,13 @@ abbrev pub lists_key : ℕ → List ℕ → Bool
 lists_key key keys = list_any (nat_eq key) keys
 
 -- the record under a key, and whether its status passes a test
-abbrev pub no_ticket : Ticket
-no_ticket = record { front = 0; turn = 0 }
+abbrev pub no_rank : Rank
+no_rank = record { front = 0; turn = 0 }
 
 abbrev pub no_record : Held
 no_record = record {
   span = record { first = 0; last = 0; status = InFlight 0 0 };
-  ticket = no_ticket;
+  rank = no_rank;
 }
 
 abbrev pub held_or : Option Held → Held
@@ -47,11 +47,11 @@ status_passes test (Some h) = test h.span.status
 abbrev pub slot_passes : (Status → Bool) → List (Option Held) → ℕ → Bool
 slot_passes test slots key = status_passes test (slice_index_or slots key None)
 
--- a record with another status and ticket
-abbrev pub with_state : Status → Ticket → Held → Held
-with_state status ticket h = record {
+-- a record with another status and rank
+abbrev pub with_state : Status → Rank → Held → Held
+with_state status rank h = record {
   span = record h.span { status = status };
-  ticket = ticket;
+  rank = rank;
 }
 
 -- the spans by their numbers; before the first one is taken there are no lists
@@ -62,10 +62,10 @@ abbrev pub taken_seen : Option (Lanes Held) → List Held
 taken_seen None = []
 taken_seen (Some lanes) = held_in lanes
 
--- tickets that rise, and numbers that rise
-abbrev pub RisingTickets : List Ticket → Type 0
-RisingTickets [] = Unit {0}
-RisingTickets (t ∷ rest) = AllByRecursion (λ u. earlier t u ≡ true) rest × RisingTickets rest
+-- ranks that rise, and numbers that rise
+abbrev pub RisingRanks : List Rank → Type 0
+RisingRanks [] = Unit {0}
+RisingRanks (t ∷ rest) = AllByRecursion (λ u. earlier t u ≡ true) rest × RisingRanks rest
 
 abbrev pub RisingNumbers : List ℕ → Type 0
 RisingNumbers [] = Unit {0}
@@ -76,8 +76,8 @@ abbrev pub number_of : Status → ℕ
 number_of (Ready taken) = 0
 number_of (InFlight number moment) = number
 
-abbrev pub ticket_under : List (Option Held) → ℕ → Ticket
-ticket_under slots key = (held_under slots key).ticket
+abbrev pub rank_under : List (Option Held) → ℕ → Rank
+rank_under slots key = (held_under slots key).rank
 
 abbrev pub number_under : List (Option Held) → ℕ → ℕ
 number_under slots key = number_of (held_under slots key).span.status
@@ -90,7 +90,7 @@ pub record AreListed (slots : List (Option Held)) (ready out all : List ℕ) : T
   pub out_keys : (key : ℕ) → lists_key key out
       ≡ (lists_key key all && slot_passes is_out slots key)
   pub all_keys : (key : ℕ) → lists_key key all ≡ is_some (slice_index_or slots key None)
-  pub in_line : RisingTickets (map (ticket_under slots) ready)
+  pub in_line : RisingRanks (map (rank_under slots) ready)
   pub by_number : RisingNumbers (map (number_under slots) out)
 
 pub record AreWoven (lanes : Lanes Held) : Type 0 where
@@ -109,10 +109,10 @@ abbrev pub GoesLast : Status → List Held → Type 0
 GoesLast (Ready taken) held = ⊥
 GoesLast (InFlight number moment) held = IsNewest number held
 
--- a span that gets this status and this ticket stands after all others in its list
-abbrev pub StandsLast : Status → Ticket → List Held → Type 0
-StandsLast (Ready taken) ticket held = ComesLast ticket held
-StandsLast (InFlight number moment) ticket held = IsNewest number held
+-- a span that gets this status and this rank stands after all others in its list
+abbrev pub StandsLast : Status → Rank → List Held → Type 0
+StandsLast (Ready taken) rank held = ComesLast rank held
+StandsLast (InFlight number moment) rank held = IsNewest number held
 
 -- a key under which a span is kept that begins with this number
 pub record IsKeyOf (lanes : Lanes Held) (first key : ℕ) : Type 0 where
@@ -125,7 +125,7 @@ abbrev pub NoSpanBegins : ℕ → List Held → Type 0
 NoSpanBegins first = AllByRecursion (λ h. (h.span.first == first) ≡ false)
 
 -- the lanes after a key's span, if it is due, goes back to the end of the line
-abbrev pub expired_key : ℕ → ℕ → Ticket → ℕ → Lanes Held → Lanes Held
+abbrev pub expired_key : ℕ → ℕ → Rank → ℕ → Lanes Held → Lanes Held
 expired_key timeout clock latest key lanes =
     if slot_passes (is_due timeout clock) lanes.slots key then
     record lanes {

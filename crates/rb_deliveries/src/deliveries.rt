@@ -7,15 +7,15 @@ ghost use Rattle.rb_deliveries.specs.Changes.{all_expired, delivered_to, first_o
 ghost use Rattle.rb_deliveries.specs.Changes.{grown_picture, how_many_expire, nacked_to};
 ghost use Rattle.rb_deliveries.specs.Changes.{opened_to, reconnected_spans, subscribed_spans};
 ghost use Rattle.rb_deliveries.specs.Changes.{unsubscribed_from};
-ghost use Rattle.rb_deliveries.specs.Lanes.{most_numbers};
+ghost use Rattle.rb_deliveries.specs.Queues.{most_numbers};
 ghost use Rattle.rb_deliveries.specs.Picture.{Subscription, no_deliveries};
 ghost use Rattle.rb_deliveries.specs.Spans.{SpansRise, cut_spans, floor_of, is_fresh};
 ghost use Rattle.rb_deliveries.specs.Spans.{span_length, without_first};
 
 use crate::kept::Subs;
+use crate::rank::Rank;
 use crate::span::Span;
 use crate::subscription::SubscriptionRef;
-use crate::ticket::Ticket;
 use std::alloc::{AllocError, Global};
 use std::marker::Model;
 
@@ -26,7 +26,7 @@ pub struct Deliveries {
     batch: u64,
     front: u64,
     next_delivery: u64,
-    // how many turns were drawn: a span's ticket has the front and the turn in which it got ready
+    // how many turns were drawn: a span's rank has the front and the turn in which it got ready
     turn: u64,
     subs: Subs,
 }
@@ -110,8 +110,8 @@ impl Deliveries {
         }) }
         ensures err { OnErr result (self.new ≡ self.old) }
     {
-        let ticket = self.next_ticket();
-        self.subs.add_subscriber(alloc, start, link, ticket)?;
+        let rank = self.next_rank();
+        self.subs.add_subscriber(alloc, start, link, rank)?;
         self.turn += 1;
         Ok(())
     }
@@ -166,8 +166,8 @@ impl Deliveries {
             } }
     {
         self.subs.rise();
-        let ticket = self.next_ticket();
-        self.subs.give_back(s, span.first, ticket);
+        let rank = self.next_rank();
+        self.subs.give_back(s, span.first, rank);
         self.turn += 1;
     }
 
@@ -186,7 +186,7 @@ impl Deliveries {
         ensures err { OnErr result (self.new ≡ self.old) }
     {
         self.subs.rise();
-        let latest = self.latest_ticket();
+        let latest = self.latest_rank();
         self.subs.open_up(s, span.first, latest)?;
         self.turn += self.front;
         Ok(span.last - span.first + 1)
@@ -201,7 +201,7 @@ impl Deliveries {
         ensures turns { self.new.turns ≤ self.old.turns + self.old.picture.next_delivery }
     {
         self.subs.rise();
-        let latest = self.latest_ticket();
+        let latest = self.latest_rank();
         let many = self.subs.expire(timeout, clock, latest, self.next_delivery);
         self.turn += self.next_delivery;
         many
@@ -219,8 +219,8 @@ impl Deliveries {
               turns = suc self.old.turns;
             } }
     {
-        let ticket = self.next_ticket();
-        self.subs.reconnect(s, cursor, link, ticket);
+        let rank = self.next_rank();
+        self.subs.reconnect(s, cursor, link, rank);
         self.turn += 1;
     }
 
@@ -250,22 +250,22 @@ impl Deliveries {
 }
 
 impl Deliveries {
-    // the ticket of the last turn drawn
-    fn latest_ticket(&self) -> Ticket
+    // the rank of the last turn drawn
+    fn latest_rank(&self) -> Rank
         ensures { result ≡ record { front = self.now.picture.front; turn = self.now.turns } }
     {
-        Ticket {
+        Rank {
             front: self.front,
             turn: self.turn,
         }
     }
 
-    // the ticket of the next turn
-    fn next_ticket(&self) -> Ticket
+    // the rank of the next turn
+    fn next_rank(&self) -> Rank
         requires { suc self.now.turns < 18446744073709551616 }
         ensures { result ≡ record { front = self.now.picture.front; turn = suc self.now.turns } }
     {
-        Ticket {
+        Rank {
             front: self.front,
             turn: self.turn + 1,
         }

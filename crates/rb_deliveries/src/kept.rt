@@ -7,8 +7,8 @@ ghost use Rattle.std.specs.Option.{option_copied, option_map};
 ghost use Rattle.rb_deliveries.specs.declared.sub.Sub.{Sub};
 ghost use Rattle.rb_deliveries.specs.Expiry.{all_due, expired_sub, by_number, turns_from};
 ghost use Rattle.rb_deliveries.specs.KeptSubs.{with_sub};
-ghost use Rattle.rb_deliveries.specs.Lanes.{AreRising, AreLimited, HasNumbers, lane_floor};
-ghost use Rattle.rb_deliveries.specs.Lanes.{most_numbers, settled_lane};
+ghost use Rattle.rb_deliveries.specs.Queues.{AreRising, AreLimited, HasNumbers, queue_floor};
+ghost use Rattle.rb_deliveries.specs.Queues.{most_numbers, settled_queue};
 ghost use Rattle.rb_deliveries.specs.Opening.{IsLatestAt, opened_sub};
 ghost use Rattle.rb_deliveries.specs.Subs.{AreGiven, Belongs, ComesLastAt, IsDrawn, IsNewestAt};
 ghost use Rattle.rb_deliveries.specs.Subs.{new_sub, delivered_sub};
@@ -16,9 +16,9 @@ ghost use Rattle.rb_deliveries.specs.Subs.{returned_sub, settled_sub, reconnecte
 ghost use Rattle.rb_deliveries.specs.Subs.{first_to_deliver, span_to_deliver};
 ghost use Rattle.rb_deliveries.specs.Waiting.{AreWaiting, BelongAll, FirstPast, StandsAgain};
 
+use crate::rank::Rank;
 use crate::span::Span;
 use crate::sub::Sub;
-use crate::ticket::Ticket;
 use crate::tournament::Tournament;
 use std::alloc::{AllocError, Global};
 use std::marker::Model;
@@ -45,7 +45,7 @@ impl Model for Subs {
     ghost invariant = { λ d. AreWaiting d.window d.subs.items d.waiting.line d.waiting.moments };
 }
 
-/// Which subscription's span is delivered first, and whose delivery was taken first: the tickets of
+/// Which subscription's span is delivered first, and whose delivery was taken first: the ranks of
 /// all subscriptions, and their earliest moments.
 #[derive(Debug, Drop)]
 pub(crate) struct Waiting {
@@ -54,7 +54,7 @@ pub(crate) struct Waiting {
 }
 
 impl Waiting {
-    /// Gives a subscription that changed its ticket and its moment among the others.
+    /// Gives a subscription that changed its rank and its moment among the others.
     fn stand(&mut self, subs: &[Sub], window: u64, s: usize)
         requires here { s < length subs.now }
         requires line { length self.old.line ≡ length subs.now }
@@ -63,7 +63,7 @@ impl Waiting {
             → StandsAgain window s sub self.old.line self.old.moments self.new.line
             self.new.moments }
     {
-        self.line.set(s, subs[s].ticket(window));
+        self.line.set(s, subs[s].rank(window));
         self.moments.set(s, subs[s].moment());
     }
 
@@ -71,15 +71,15 @@ impl Waiting {
     fn push(
         &mut self,
         alloc: Global,
-        ticket: Option<Ticket>,
-        moment: Option<Ticket>,
+        rank: Option<Rank>,
+        moment: Option<Rank>,
     ) -> Result<(), AllocError>
-        ensures ok { OnOk result ((self.new.line ≡ self.old.line ++ ticket ∷ [])
+        ensures ok { OnOk result ((self.new.line ≡ self.old.line ++ rank ∷ [])
             × (self.new.moments ≡ self.old.moments ++ moment ∷ [])) }
         ensures err { OnErr result ((self.new.line ≡ self.old.line)
             × (self.new.moments ≡ self.old.moments)) }
     {
-        self.line.push(alloc, ticket)?;
+        self.line.push(alloc, rank)?;
         if let Err(e) = self.moments.push(alloc, moment) {
             self.line.pop();
             return Err(e);
@@ -119,30 +119,30 @@ impl Subs {
 
     /// Does nothing. Its contract is a law: the spans of each subscription rise.
     pub(crate) fn rise(&self)
-        ensures { AllByRecursion (λ sub. AreRising sub.lane) self.now.subs }
+        ensures { AllByRecursion (λ sub. AreRising sub.queue) self.now.subs }
     {
         let _window = self.window;
     }
 
     /// Adds a subscription to the numbers after `start`, under this link. They are cut with this
-    /// ticket.
+    /// rank.
     pub(crate) fn add_subscriber(
         &mut self,
         alloc: Global,
         start: u64,
         link: u64,
-        ticket: Ticket,
+        rank: Rank,
     ) -> Result<(), AllocError>
         requires { start ≤ most_numbers }
         ensures ok { OnOk result (self.new ≡ record {
           window = self.old.window;
-          subs = self.old.subs ++ new_sub start link ticket ∷ [];
+          subs = self.old.subs ++ new_sub start link rank ∷ [];
         }) }
         ensures err { OnErr result (self.new ≡ self.old) }
     {
         self.subs.reserve(1)?;
-        let made = Sub::behind(start, link, ticket);
-        let first = made.ticket(self.window);
+        let made = Sub::after(start, link, rank);
+        let first = made.rank(self.window);
         let moment = made.moment();
         self.waiting.push(alloc, first, moment)?;
         self.subs.push_reserved(made);
@@ -167,7 +167,7 @@ impl Subs {
             → self.new ≡ with_sub self.old s (delivered_sub sub span number tick)) }
         ensures err { OnErr result (self.new ≡ self.old) }
         ensures memory { OnErr result ((sub : Sub) → slice_get self.old.subs s ≡ Some sub
-            → span.first ≡ sub.lane.next) }
+            → span.first ≡ sub.queue.next) }
     {
         let s = s as usize;
         let alloc = *self.subs.allocator();
@@ -176,23 +176,23 @@ impl Subs {
         Ok(())
     }
 
-    /// Makes a span of a subscription ready again, in line with this ticket, which comes after
+    /// Makes a span of a subscription ready again, in line with this rank, which comes after
     /// those of its other spans.
-    pub(crate) fn give_back(&mut self, s: u64, first: u64, ticket: Ticket)
+    pub(crate) fn give_back(&mut self, s: u64, first: u64, rank: Rank)
         requires there { s < length self.old.subs }
-        requires last { ComesLastAt self.old.subs s ticket }
+        requires last { ComesLastAt self.old.subs s rank }
         ensures { (sub : Sub) → slice_get self.old.subs s ≡ Some sub
-            → self.new ≡ with_sub self.old s (returned_sub sub first ticket) }
+            → self.new ≡ with_sub self.old s (returned_sub sub first rank) }
     {
         let s = s as usize;
-        self.subs[s].give_back(first, ticket);
+        self.subs[s].give_back(first, rank);
         self.waiting.stand(&self.subs, self.window, s);
     }
 
     /// Opens a span of a subscription: each of its numbers is a ready span of its own, in its
-    /// place. They are in line after all other spans, by rising number: their tickets come after
-    /// `latest`, which no ticket of that subscription comes after. An `Err` changes nothing.
-    pub(crate) fn open_up(&mut self, s: u64, first: u64, latest: Ticket) -> Result<(), AllocError>
+    /// place. They are in line after all other spans, by rising number: their ranks come after
+    /// `latest`, which no rank of that subscription comes after. An `Err` changes nothing.
+    pub(crate) fn open_up(&mut self, s: u64, first: u64, latest: Rank) -> Result<(), AllocError>
         requires there { s < length self.old.subs }
         requires latest { IsLatestAt self.old.subs s latest }
         ensures ok { OnOk result ((sub : Sub) → slice_get self.old.subs s ≡ Some sub
@@ -211,7 +211,7 @@ impl Subs {
         ensures kept { (sub : Sub) → slice_get self.old.subs s ≡ Some sub
             → self.new ≡ with_sub self.old s (settled_sub sub first) }
         ensures floor { (sub : Sub) → slice_get self.old.subs s ≡ Some sub
-            → result ≡ lane_floor (settled_lane sub.lane first) }
+            → result ≡ queue_floor (settled_queue sub.queue first) }
     {
         let s = s as usize;
         let floor = self.subs[s].settle(first);
@@ -220,15 +220,15 @@ impl Subs {
     }
 
     /// Continues a subscription after `cursor`, under this link. The numbers after it are cut with
-    /// this ticket.
-    pub(crate) fn reconnect(&mut self, s: u64, cursor: u64, link: u64, ticket: Ticket)
+    /// this rank.
+    pub(crate) fn reconnect(&mut self, s: u64, cursor: u64, link: u64, rank: Rank)
         requires there { s < length self.old.subs }
         requires cursor { cursor ≤ most_numbers }
         ensures { (sub : Sub) → slice_get self.old.subs s ≡ Some sub
-            → self.new ≡ with_sub self.old s (reconnected_sub sub cursor link ticket) }
+            → self.new ≡ with_sub self.old s (reconnected_sub sub cursor link rank) }
     {
         let s = s as usize;
-        self.subs[s].reconnect(cursor, link, ticket);
+        self.subs[s].reconnect(cursor, link, rank);
         self.waiting.stand(&self.subs, self.window, s);
     }
 
@@ -255,17 +255,17 @@ impl Subs {
             (first_to_deliver self.now.window batch front 0 self.now.subs) }
     {
         let winner = self.waiting.line.winner()?;
-        // the ticket of numbers that aren't placed yet
-        if front < winner.ticket.front {
+        // the rank of numbers that aren't placed yet
+        if front < winner.rank.front {
             return None;
         }
-        let held = self.subs[winner.place].lane.first_in_line(batch, front)?;
+        let held = self.subs[winner.place].queue.first_in_line(batch, front)?;
         Some((winner.place as u64, held.span))
     }
 
-    /// Makes the spans that are due ready again, and returns how many there are. Their tickets come
+    /// Makes the spans that are due ready again, and returns how many there are. Their ranks come
     /// after `latest`, in the order of their deliveries' numbers, which are below `next`.
-    pub(crate) fn expire(&mut self, timeout: u64, clock: u64, latest: Ticket, next: u64) -> u64
+    pub(crate) fn expire(&mut self, timeout: u64, clock: u64, latest: Rank, next: u64) -> u64
         requires belong { AllByRecursion (Belongs latest.front latest.turn next) self.old.subs }
         requires few { (latest.front ≤ most_numbers) × (length self.old.subs ≤ 1024) }
         requires turns { latest.turn + next < 18446744073709551616 }
@@ -297,14 +297,14 @@ fn expire_due(
     window: u64,
     timeout: u64,
     clock: u64,
-    latest: Ticket,
+    latest: Rank,
     next: u64,
 ) -> u64
     requires waiting { AreWaiting window subs.old.items waiting.old.line waiting.old.moments }
-    requires given { AllByRecursion (λ sub. AreGiven next latest.turn sub.lane.held)
+    requires given { AllByRecursion (λ sub. AreGiven next latest.turn sub.queue.held)
         subs.old.items }
     requires drawn { AllByRecursion (λ sub. AllByRecursion
-        (λ h. IsDrawn latest.front latest.turn h.ticket) sub.lane.held) subs.old.items }
+        (λ h. IsDrawn latest.front latest.turn h.rank) sub.queue.held) subs.old.items }
     requires few { all_due timeout clock subs.old.items < 18446744073709551616 }
     ensures many { result ≡ all_due timeout clock subs.old.items }
     ensures subs { subs.new.items
@@ -328,7 +328,7 @@ fn first_past(moments: &Tournament, timeout: u64, clock: u64) -> Option<usize>
     ensures { FirstPast timeout clock moments.now result }
 {
     let winner = moments.winner()?;
-    if timeout <= clock.saturating_sub(winner.ticket.front) {
+    if timeout <= clock.saturating_sub(winner.rank.front) {
         return Some(winner.place);
     }
     None

@@ -5,15 +5,15 @@
 
 mod deliveries;
 mod kept;
-mod lane;
 mod opening;
+mod queue;
+mod rank;
 mod records;
 mod span;
 mod steps;
 mod sub;
 mod subscription;
 mod taken;
-mod ticket;
 mod tournament;
 
 pub use deliveries::Deliveries;

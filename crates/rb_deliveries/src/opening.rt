@@ -9,25 +9,25 @@ ghost use Rattle.rb_deliveries.specs.Subs.{IsDrawn};
 ghost use Rattle.rb_deliveries.specs.Taken.{AddsAfter, AreKept, AreWoven, held_in, held_under};
 ghost use Rattle.rb_deliveries.specs.Taken.{lists_key, nth_list};
 
+use crate::rank::{Held, Rank};
 use crate::span::{Span, Status};
 use crate::steps::{key_beginning, without};
-use crate::ticket::{Held, Ticket};
 use link_lists::{Lane, Woven};
 use std::alloc::AllocError;
 
-/// Opens the one that begins with this number, if there is one. The tickets of its numbers come
+/// Opens the one that begins with this number, if there is one. The ranks of its numbers come
 /// after `latest`, which comes after all others. Returns how many are in flight then. All memory is
 /// taken first: an `Err` changes no span.
 pub(crate) fn open(
     records: &mut Woven<Held>,
     flying: u64,
     first: u64,
-    latest: Ticket,
+    latest: Rank,
 ) -> Result<u64, AllocError>
     requires lists { AreKept (Some records.old) flying }
     requires rising { RiseFromOne (held_in records.old) }
     requires few { length (held_in records.old) < 2 ^ 64 - 1 }
-    requires drawn { AllByRecursion (λ h. IsDrawn latest.front latest.turn h.ticket)
+    requires drawn { AllByRecursion (λ h. IsDrawn latest.front latest.turn h.rank)
         (held_in records.old) }
     requires turns { AllByRecursion (λ h. latest.turn + h.span.last < 18446744073709551616)
         (held_in records.old) }
@@ -63,7 +63,7 @@ fn last_at(records: &Woven<Held>, key: usize) -> u64
 }
 
 // makes the span under this key one of this number alone
-fn set_single(records: &mut Woven<Held>, key: usize, n: u64, latest: Ticket)
+fn set_single(records: &mut Woven<Held>, key: usize, n: u64, latest: Rank)
     requires kept { IsSome (value_under records.old key) }
     requires fits { latest.turn + n < 18446744073709551616 }
     ensures { records.new ≡ record records.old {
@@ -76,7 +76,7 @@ fn set_single(records: &mut Woven<Held>, key: usize, n: u64, latest: Ticket)
 }
 
 // Adds this number after the span under key `at`, as a ready span of its own. Returns its key.
-fn add_after(records: &mut Woven<Held>, at: usize, n: u64, latest: Ticket) -> usize
+fn add_after(records: &mut Woven<Held>, at: usize, n: u64, latest: Rank) -> usize
     requires room { 0 < records.old.spare }
     requires lists { AreWoven records.old }
     requires there { lists_key at (nth_list 0 records.old.second) ≡ true }
@@ -89,8 +89,8 @@ fn add_after(records: &mut Woven<Held>, at: usize, n: u64, latest: Ticket) -> us
     key
 }
 
-// a number as a ready span of its own, with its ticket
-fn single(n: u64, latest: Ticket) -> Held
+// a number as a ready span of its own, with its rank
+fn single(n: u64, latest: Rank) -> Held
     requires { latest.turn + n < 18446744073709551616 }
     ensures { result ≡ single_held latest n }
 {
@@ -100,7 +100,7 @@ fn single(n: u64, latest: Ticket) -> Held
             last: n,
             status: Status::Ready { taken: true },
         },
-        ticket: Ticket {
+        rank: Rank {
             front: latest.front,
             turn: latest.turn + n,
         },

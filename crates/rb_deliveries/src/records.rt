@@ -5,13 +5,13 @@ ghost use Rattle.std.specs.Prelude.{◌≡◌, [], slice_get, IfOk, IfSome, Some
 ghost use Rattle.std.specs.Option.{option_map};
 ghost use Rattle.link_lists.specs.Lanes.{value_under};
 ghost use Rattle.rb_deliveries.specs.Expiry.{due_held};
-ghost use Rattle.rb_deliveries.specs.Lanes.{spans_of, least};
+ghost use Rattle.rb_deliveries.specs.Queues.{spans_of, least};
 ghost use Rattle.rb_deliveries.specs.Spans as spans;
 ghost use Rattle.rb_deliveries.specs.Taken.{AreWoven, AreKept, held_in, slot_passes};
 ghost use Rattle.rb_deliveries.specs.Waiting as waiting;
 
+use crate::rank::{Held, Rank, first_rank};
 use crate::span::Span;
-use crate::ticket::{Held, Ticket, first_ticket};
 use link_lists::{Lane, Woven};
 use std::alloc::{AllocError, Global};
 
@@ -101,7 +101,7 @@ pub(crate) fn out_as(records: &Woven<Held>, flying: u64, delivery: u64) -> Optio
 }
 
 /// The earliest moment at which one in flight was taken.
-pub(crate) fn earliest(records: &Woven<Held>, flying: u64) -> Option<Ticket>
+pub(crate) fn earliest(records: &Woven<Held>, flying: u64) -> Option<Rank>
     requires { AreKept (Some records.now) flying }
     ensures { result ≡ waiting.earliest (held_in records.now) }
 {
@@ -112,7 +112,7 @@ pub(crate) fn earliest(records: &Woven<Held>, flying: u64) -> Option<Ticket>
         let Some(key) = at else {
             return first;
         };
-        first = first_ticket(first, moment_at(records, key));
+        first = first_rank(first, moment_at(records, key));
         at = records.next(Lane::First, key);
     }
     first
@@ -147,7 +147,7 @@ fn span_at(records: &Woven<Held>, key: usize) -> Option<Span>
 }
 
 // the moment at which the span under this key was taken, if it is in flight
-fn moment_at(records: &Woven<Held>, key: usize) -> Option<Ticket>
+fn moment_at(records: &Woven<Held>, key: usize) -> Option<Rank>
     ensures { IfSome (value_under records.now key)
         (λ h. result ≡ waiting.moment_of h.span.status) }
 {

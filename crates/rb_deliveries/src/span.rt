@@ -5,7 +5,7 @@ ghost use Rattle.std.specs.Prelude.{◌≡◌};
 ghost use Rattle.rb_deliveries.specs.Spans.{is_ready, is_out, is_out_as, is_due};
 ghost use Rattle.rb_deliveries.specs.Waiting.{moment_of};
 
-use crate::ticket::Ticket;
+use crate::rank::Rank;
 
 /// The numbers from `first` to `last`, and their status.
 #[derive(Clone, Copy, Debug, PartialEq, Eq)]
@@ -59,12 +59,12 @@ impl Status {
     }
 
     /// The moment at which they were taken, if they are in flight, as a place in an order.
-    pub(crate) fn moment(self) -> Option<Ticket>
+    pub(crate) fn moment(self) -> Option<Rank>
         ensures { result ≡ moment_of self }
     {
         match self {
             Status::Ready { taken: _ } => None,
-            Status::InFlight { number: _, moment } => Some(Ticket {
+            Status::InFlight { number: _, moment } => Some(Rank {
                 front: moment,
                 turn: 0,
             }),

@@ -6,15 +6,15 @@ ghost use Rattle.std.specs.List.{AllByRecursion};
 ghost use Rattle.link_lists.specs.declared.lane.Lane.TheVariants.{First};
 ghost use Rattle.link_lists.specs.Lanes.{value_under, with_lane, without_key};
 ghost use Rattle.rb_deliveries.specs.Expiry.{HasTurn, expired_by};
-ghost use Rattle.rb_deliveries.specs.Lanes.{restated, without_held, RiseSome};
+ghost use Rattle.rb_deliveries.specs.Queues.{restated, without_held, RiseSome};
 ghost use Rattle.rb_deliveries.specs.Subs.{AreGiven, IsDrawn};
 ghost use Rattle.rb_deliveries.specs.Taken.{AreWoven, AreKept, GoesLast, IsKeyOf, NoSpanBegins};
 ghost use Rattle.rb_deliveries.specs.Taken.{StandsLast, expired_key, held_in, held_under};
 ghost use Rattle.rb_deliveries.specs.Taken.{lists_key, nth_list, with_state};
 
+use crate::rank::{Held, Rank};
 use crate::records::{is_due_at, is_out_at};
 use crate::span::{Span, Status};
-use crate::ticket::{Held, Ticket};
 use link_lists::{Lane, Woven};
 
 /// Adds one in flight after all others. Returns how many are in flight then.
@@ -32,27 +32,27 @@ pub(crate) fn push(records: &mut Woven<Held>, flying: u64, held: Held) -> u64
     flying + 1
 }
 
-/// Sets the status and the ticket of the one that begins with this number, if there is one, and
+/// Sets the status and the rank of the one that begins with this number, if there is one, and
 /// moves it to the end of its list. Returns how many are in flight then.
 pub(crate) fn restate(
     records: &mut Woven<Held>,
     flying: u64,
     first: u64,
     status: Status,
-    ticket: Ticket,
+    rank: Rank,
 ) -> u64
     requires lists { AreKept (Some records.old) flying }
     requires rising { RiseSome (held_in records.old) }
     requires few { length (held_in records.old) < 2 ^ 64 - 1 }
-    requires last { StandsLast status ticket (held_in records.old) }
+    requires last { StandsLast status rank (held_in records.old) }
     ensures lists { AreKept (Some records.new) result }
-    ensures spans { held_in records.new ≡ restated first status ticket (held_in records.old) }
+    ensures spans { held_in records.new ≡ restated first status rank (held_in records.old) }
 {
     let Some(key) = key_beginning(records, flying, first) else {
         return flying;
     };
     let rest = without(records, flying, key);
-    set(records, key, status, ticket);
+    set(records, key, status, rank);
     if status.is_out() {
         records.push_back(Lane::First, 1, key);
         rest + 1
@@ -88,19 +88,19 @@ pub(crate) fn clear(records: &mut Woven<Held>)
     records.clear();
 }
 
-/// Makes those that are due ready again. Their tickets have turns after `latest`, in the order of
+/// Makes those that are due ready again. Their ranks have turns after `latest`, in the order of
 /// their deliveries' numbers, which are below `next`. Returns how many are in flight then.
 pub(crate) fn expire(
     records: &mut Woven<Held>,
     flying: u64,
     timeout: u64,
     clock: u64,
-    latest: Ticket,
+    latest: Rank,
     next: u64,
 ) -> u64
     requires lists { AreKept (Some records.old) flying }
     requires given { AreGiven next latest.turn (held_in records.old) }
-    requires drawn { AllByRecursion (λ h. IsDrawn latest.front latest.turn h.ticket)
+    requires drawn { AllByRecursion (λ h. IsDrawn latest.front latest.turn h.rank)
         (held_in records.old) }
     ensures lists { AreKept (Some records.new) result }
     ensures spans { held_in records.new
@@ -195,17 +195,17 @@ fn begins_at(records: &Woven<Held>, key: usize, first: u64) -> bool
     }
 }
 
-// sets the status and the ticket of the span under this key
-fn set(records: &mut Woven<Held>, key: usize, status: Status, ticket: Ticket)
+// sets the status and the rank of the span under this key
+fn set(records: &mut Woven<Held>, key: usize, status: Status, rank: Rank)
     requires { IsSome (value_under records.old key) }
     ensures { records.new ≡ record records.old {
       slots = slice_set records.old.slots key
-          (Some (with_state status ticket (held_under records.old.slots key)));
+          (Some (with_state status rank (held_under records.old.slots key)));
     } }
 {
     if let Some(held) = records.get_mut(key) {
         held.span.status = status;
-        held.ticket = ticket;
+        held.rank = rank;
     }
 }
 
@@ -217,7 +217,7 @@ fn expire_key(
     key: usize,
     timeout: u64,
     clock: u64,
-    latest: Ticket,
+    latest: Rank,
 ) -> u64
     requires lists { AreKept (Some records.old) flying }
     requires out { lists_key key (nth_list 1 records.old.first) ≡ true }
@@ -235,7 +235,7 @@ fn expire_key(
 }
 
 // makes the span under this key ready again if it is due
-fn expire_at(records: &mut Woven<Held>, key: usize, timeout: u64, clock: u64, latest: Ticket)
+fn expire_at(records: &mut Woven<Held>, key: usize, timeout: u64, clock: u64, latest: Rank)
     requires kept { IsSome (value_under records.old key) }
     requires turn { HasTurn latest.turn (held_under records.old.slots key).span.status }
     ensures { records.new ≡ record records.old {
@@ -248,7 +248,7 @@ fn expire_at(records: &mut Woven<Held>, key: usize, timeout: u64, clock: u64, la
     }
 }
 
-fn expired(held: Held, timeout: u64, clock: u64, latest: Ticket) -> Held
+fn expired(held: Held, timeout: u64, clock: u64, latest: Rank) -> Held
     requires { HasTurn latest.turn held.span.status }
     ensures { result ≡ expired_by timeout clock latest held }
 {
@@ -259,7 +259,7 @@ fn expired(held: Held, timeout: u64, clock: u64, latest: Ticket) -> Held
                     status: Status::Ready { taken: true },
                     ..held.span
                 },
-                ticket: Ticket {
+                rank: Rank {
                     front: latest.front,
                     turn: latest.turn + 1 + number,
                 },

@@ -2,7 +2,7 @@
 
 ghost use Rattle.std.specs.Prelude.{◌≡◌};
 ghost use Rattle.rb_deliveries.specs.Changes.{has_no_spans};
-ghost use Rattle.rb_deliveries.specs.Lanes.{AreLimited};
+ghost use Rattle.rb_deliveries.specs.Queues.{AreLimited};
 ghost use Rattle.rb_deliveries.specs.Pictured.{pictured_sub};
 ghost use Rattle.rb_deliveries.specs.Spans.{first_ready, how_many_out, how_many_ready, out_as};
 
@@ -19,7 +19,7 @@ pub struct SubscriptionRef<'a> {
 }
 
 impl<'a> Model for SubscriptionRef<'a> {
-    ghost use Rattle.rb_deliveries.specs.Lanes.{AreLimited};
+    ghost use Rattle.rb_deliveries.specs.Queues.{AreLimited};
     ghost use Rattle.rb_deliveries.specs.Picture.{Subscription};
     ghost use Rattle.rb_deliveries.specs.Pictured.{pictured_sub};
 

@@ -1,20 +1,20 @@
 //! The spans of a subscription that were taken before and are not settled: the ready ones by their
-//! tickets, those in flight by their deliveries' numbers, and all by their own numbers.
+//! ranks, those in flight by their deliveries' numbers, and all by their own numbers.
 
 ghost use Rattle.std.specs.Prelude.{◌≡◌, ◌<◌, ◌^◌, ◌++◌, ◌∷◌, ◌==◌, [], map, length, slice_get};
 ghost use Rattle.std.specs.Prelude.{◌-◌, ◌+◌, OnOk, OnErr};
 ghost use Rattle.std.specs.List.{AllByRecursion};
 ghost use Rattle.std.specs.Option.{option_map};
 ghost use Rattle.rb_deliveries.specs.Expiry.{due_held, expired_by};
-ghost use Rattle.rb_deliveries.specs.Lanes.{spans_of, least, restated, without_held, RiseSome};
+ghost use Rattle.rb_deliveries.specs.Queues.{spans_of, least, restated, without_held, RiseSome};
 ghost use Rattle.rb_deliveries.specs.Opening.{opened_held, RiseFromOne};
 ghost use Rattle.rb_deliveries.specs.Spans as spans;
 ghost use Rattle.rb_deliveries.specs.Subs.{AreGiven, IsDrawn};
 ghost use Rattle.rb_deliveries.specs.Taken.{GoesLast, StandsLast};
 ghost use Rattle.rb_deliveries.specs.Waiting.{earliest};
 
+use crate::rank::{Held, Rank};
 use crate::span::{Span, Status};
-use crate::ticket::{Held, Ticket};
 use crate::{opening, records, steps};
 use link_lists::Woven;
 use std::alloc::{AllocError, Global};
@@ -32,8 +32,8 @@ pub(crate) struct Taken {
 impl Model for Taken {
     ghost use Rattle.std.specs.Prelude.{List};
     ghost use Rattle.std.specs.Coded.{coded_list};
-    ghost use Rattle.rb_deliveries.specs.declared.ticket.Held.{Held};
-    ghost use Rattle.rb_deliveries.specs.contracts.ticket.Held as held;
+    ghost use Rattle.rb_deliveries.specs.declared.rank.Held.{Held};
+    ghost use Rattle.rb_deliveries.specs.contracts.rank.Held as held;
     ghost use Rattle.rb_deliveries.specs.Taken.{AreKept, taken_seen};
 
     ghost Value = { List Held };
@@ -112,7 +112,7 @@ impl Taken {
     }
 
     /// The earliest moment at which one in flight was taken.
-    pub(crate) fn earliest(&self) -> Option<Ticket>
+    pub(crate) fn earliest(&self) -> Option<Rank>
         ensures { result ≡ earliest self.now }
     {
         records::earliest(self.records.as_ref()?, self.flying)
@@ -148,28 +148,28 @@ impl Taken {
         Ok(())
     }
 
-    /// Sets the status and the ticket of the span that begins with this number, if there is one. It
+    /// Sets the status and the rank of the span that begins with this number, if there is one. It
     /// stands after all others then: among those in flight by its delivery's number, or in line by
-    /// its ticket.
-    pub(crate) fn restate(&mut self, first: u64, status: Status, ticket: Ticket)
+    /// its rank.
+    pub(crate) fn restate(&mut self, first: u64, status: Status, rank: Rank)
         requires rising { RiseSome self.old }
         requires few { length self.old < 2 ^ 64 - 1 }
-        requires last { StandsLast status ticket self.old }
-        ensures { self.new ≡ restated first status ticket self.old }
+        requires last { StandsLast status rank self.old }
+        ensures { self.new ≡ restated first status rank self.old }
     {
         let Some(records) = &mut self.records else {
             return;
         };
-        self.flying = steps::restate(records, self.flying, first, status, ticket);
+        self.flying = steps::restate(records, self.flying, first, status, rank);
     }
 
     /// Opens the span that begins with this number, if there is one: each of its numbers is a ready
-    /// span of its own. Their tickets come after `latest`, which comes after all others. An `Err`
+    /// span of its own. Their ranks come after `latest`, which comes after all others. An `Err`
     /// changes nothing.
-    pub(crate) fn open(&mut self, first: u64, latest: Ticket) -> Result<(), AllocError>
+    pub(crate) fn open(&mut self, first: u64, latest: Rank) -> Result<(), AllocError>
         requires rising { RiseFromOne self.old }
         requires few { length self.old < 2 ^ 64 - 1 }
-        requires drawn { AllByRecursion (λ h. IsDrawn latest.front latest.turn h.ticket) self.old }
+        requires drawn { AllByRecursion (λ h. IsDrawn latest.front latest.turn h.rank) self.old }
         requires turns { AllByRecursion (λ h. latest.turn + h.span.last < 18446744073709551616)
             self.old }
         ensures ok { OnOk result (self.new ≡ opened_held first latest self.old) }
@@ -194,11 +194,11 @@ impl Taken {
         self.flying = steps::remove(records, self.flying, first);
     }
 
-    /// Makes those that are due ready again. Their tickets come after `latest`, in the order of
+    /// Makes those that are due ready again. Their ranks come after `latest`, in the order of
     /// their deliveries' numbers, which are below `next`.
-    pub(crate) fn expire(&mut self, timeout: u64, clock: u64, latest: Ticket, next: u64)
+    pub(crate) fn expire(&mut self, timeout: u64, clock: u64, latest: Rank, next: u64)
         requires given { AreGiven next latest.turn self.old }
-        requires drawn { AllByRecursion (λ h. IsDrawn latest.front latest.turn h.ticket) self.old }
+        requires drawn { AllByRecursion (λ h. IsDrawn latest.front latest.turn h.rank) self.old }
         ensures { self.new ≡ map (expired_by timeout clock latest) self.old }
     {
         let Some(records) = &mut self.records else {

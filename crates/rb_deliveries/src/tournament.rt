@@ -1,25 +1,25 @@
-//! A tournament over tickets: places with and without a ticket, and which of them wins. Changing a
+//! A tournament over ranks: places with and without a rank, and which of them wins. Changing a
 //! place takes time that grows with the number of binary digits of the number of places.
 
 ghost use Rattle.std.specs.Prelude.{◌≡◌, ◌<◌, ◌≤◌, ◌+◌, ◌++◌, ◌∷◌, suc, [], length, drop};
 ghost use Rattle.std.specs.Prelude.{replicate, slice_set, List, Option, None, IfOk, OnOk, OnErr};
-ghost use Rattle.rb_deliveries.specs.declared.ticket.Ticket.{Ticket};
+ghost use Rattle.rb_deliveries.specs.declared.rank.Rank.{Rank};
 ghost use Rattle.rb_deliveries.specs.Tournament as spec;
 ghost use Rattle.rb_deliveries.specs.Tournament.{at_place, winner_from, NodesWin, IsTree};
-ghost use Rattle.rb_deliveries.specs.Tournament.{tickets_of};
+ghost use Rattle.rb_deliveries.specs.Tournament.{ranks_of};
 
-use crate::ticket::{Ticket, overtakes};
+use crate::rank::{Rank, overtakes};
 use std::alloc::{AllocError, Global};
 use std::marker::Model;
 
-/// The place whose ticket is first in line; of those with the same ticket, the first.
+/// The place whose rank is first in line; of those with the same rank, the first.
 #[derive(Clone, Copy, Debug, PartialEq, Eq)]
 pub(crate) struct Winner {
     pub(crate) place: usize,
-    pub(crate) ticket: Ticket,
+    pub(crate) rank: Rank,
 }
 
-/// Places, each with a ticket or without one. Contracts see what each place has.
+/// Places, each with a rank or without one. Contracts see what each place has.
 #[derive(Debug, Drop)]
 pub(crate) struct Tournament {
     // node i, from 1 on, is the winner of nodes 2i and 2i + 1; the places are the nodes from `room`
@@ -31,15 +31,15 @@ pub(crate) struct Tournament {
 impl Model for Tournament {
     ghost use Rattle.std.specs.Prelude.{Option, List};
     ghost use Rattle.std.specs.Coded.{coded_list, coded_option};
-    ghost use Rattle.rb_deliveries.specs.declared.ticket.Ticket.{Ticket};
-    ghost use Rattle.rb_deliveries.specs.contracts.ticket.Ticket as ticket;
-    ghost use Rattle.rb_deliveries.specs.Tournament.{IsTree, tickets_of};
+    ghost use Rattle.rb_deliveries.specs.declared.rank.Rank.{Rank};
+    ghost use Rattle.rb_deliveries.specs.contracts.rank.Rank as rank;
+    ghost use Rattle.rb_deliveries.specs.Tournament.{IsTree, ranks_of};
 
-    ghost Value = { List (Option Ticket) };
+    ghost Value = { List (Option Rank) };
 
-    ghost coded = { coded_list (coded_option ticket.the_row.coded) };
+    ghost coded = { coded_list (coded_option rank.the_row.coded) };
 
-    ghost view = { λ t. tickets_of t.nodes.items t.room t.len };
+    ghost view = { λ t. ranks_of t.nodes.items t.room t.len };
 
     ghost invariant = { λ t. IsTree t.nodes.items t.room t.len };
 }
@@ -66,18 +66,18 @@ impl Tournament {
         self.nodes[1]
     }
 
-    /// Gives a place this ticket, or none.
-    pub(crate) fn set(&mut self, place: usize, ticket: Option<Ticket>)
+    /// Gives a place this rank, or none.
+    pub(crate) fn set(&mut self, place: usize, rank: Option<Rank>)
         requires { place < length self.old }
-        ensures { self.new ≡ slice_set self.old place ticket }
+        ensures { self.new ≡ slice_set self.old place rank }
     {
         let at = self.room + place;
-        put(&mut self.nodes, self.room, at, leaf(place, ticket));
+        put(&mut self.nodes, self.room, at, leaf(place, rank));
     }
 
-    /// Adds a place with this ticket, or without one.
-    pub(crate) fn push(&mut self, alloc: Global, ticket: Option<Ticket>) -> Result<(), AllocError>
-        ensures ok { OnOk result (self.new ≡ self.old ++ ticket ∷ []) }
+    /// Adds a place with this rank, or without one.
+    pub(crate) fn push(&mut self, alloc: Global, rank: Option<Rank>) -> Result<(), AllocError>
+        ensures ok { OnOk result (self.new ≡ self.old ++ rank ∷ []) }
         ensures err { OnErr result (self.new ≡ self.old) }
     {
         if self.len == self.room {
@@ -87,7 +87,7 @@ impl Tournament {
         }
         let place = self.len;
         let at = self.room + place;
-        put(&mut self.nodes, self.room, at, leaf(place, ticket));
+        put(&mut self.nodes, self.room, at, leaf(place, rank));
         self.len += 1;
         Ok(())
     }
@@ -96,8 +96,8 @@ impl Tournament {
 impl Tournament {
     /// Removes the last place.
     pub(crate) fn pop(&mut self)
-        ensures { (rest : List (Option Ticket)) (ticket : Option Ticket)
-            → self.old ≡ rest ++ ticket ∷ [] → self.new ≡ rest }
+        ensures { (rest : List (Option Rank)) (rank : Option Rank)
+            → self.old ≡ rest ++ rank ∷ [] → self.new ≡ rest }
     {
         if self.len > 0 {
             let at = self.room + (self.len - 1);
@@ -116,7 +116,7 @@ fn widened(
 ) -> Result<(Vec<Option<Winner>>, usize), AllocError>
     requires { IsTree nodes.now room room }
     ensures { IfOk result (λ wider. IsTree wider.0.items wider.1 room × (room < wider.1)
-        × (tickets_of wider.0.items wider.1 room ≡ tickets_of nodes.now room room)) }
+        × (ranks_of wider.0.items wider.1 room ≡ ranks_of nodes.now room room)) }
 {
     let wide = if room == 0 { 1 } else { room + room };
     let Some(many) = wide.checked_add(wide) else {
@@ -162,18 +162,18 @@ fn rejoin(nodes: &mut Vec<Option<Winner>>, i: usize)
 }
 
 // the winner of one place
-fn leaf(place: usize, ticket: Option<Ticket>) -> Option<Winner>
-    ensures { result ≡ at_place place ticket }
+fn leaf(place: usize, rank: Option<Rank>) -> Option<Winner>
+    ensures { result ≡ at_place place rank }
 {
-    let ticket = ticket?;
-    Some(Winner { place, ticket })
+    let rank = rank?;
+    Some(Winner { place, rank })
 }
 
 // the winner of two neighbouring parts
 fn join(left: Option<Winner>, right: Option<Winner>) -> Option<Winner>
     ensures { result ≡ spec.winner_of_two left right }
 {
-    let a = left.map(|winner| winner.ticket);
-    let b = right.map(|winner| winner.ticket);
+    let a = left.map(|winner| winner.rank);
+    let b = right.map(|winner| winner.rank);
     if overtakes(a, b) { right } else { left }
 }

@@ -1,6 +1,6 @@
 -- The limits of a broker, and their ranges.
 use Rattle.std.specs.Prelude.{ℕ, Bool, ◌&&◌, not, nat_le, Option, Some, None, if◌then◌else◌}
-use Rattle.rb_deliveries.specs.Lanes.{most_numbers}
+use Rattle.rb_deliveries.specs.Queues.{most_numbers}
 use Rattle.rb_desk.specs.declared.config.ConfigFault.{ConfigFault}
 use Rattle.rb_desk.specs.declared.config.ConfigFault.TheVariants.{Batch, Window, Timeout, Capacity}
 use Rattle.rb_desk.specs.declared.config.ConfigFault.TheVariants.{Intake, Appliers}

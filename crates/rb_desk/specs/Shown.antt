@@ -5,7 +5,7 @@ use Rattle.std.specs.Prelude.{Result, Ok, Err, slice_get, ⊤}
 use Rattle.rb_deliveries.specs.declared.span.Span.{Span}
 use Rattle.rb_deliveries.specs.Changes.{Continues, has_room}
 use Rattle.rb_deliveries.specs.Picture.{DeliveryPicture, Subscription}
-use Rattle.rb_deliveries.specs.Lanes.{most_numbers}
+use Rattle.rb_deliveries.specs.Queues.{most_numbers}
 use Rattle.rb_deliveries.specs.Spans.{first_ready, out_as}
 use Rattle.rb_desk.specs.declared.refusal.DeskRefusal.{DeskRefusal}
 use Rattle.rb_desk.specs.Calls.{take, ack, nack, nack_opened, reconnect, refused_call, unsubscribe}

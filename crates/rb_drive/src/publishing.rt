@@ -16,7 +16,7 @@ use crate::input::Given;
 use crate::signs::Signs;
 use cs_parse::laws::{progress_goes_on, progress_tells};
 use cs_parse::{EndError, ParseError};
-use rb_broker::{Broker, BrokerBrand, Publisher, SendRefusal, StagedSet};
+use rb_broker::{Broker, BrokerBrand, Publisher, RefusedSend, StagedSet};
 use std::alloc::{AllocError, Global};
 use std::sync::Wait;
 
@@ -183,7 +183,7 @@ fn send<L: BrokerBrand, R: Wait>(
                 signs.sent.ring();
                 return true;
             }
-            Err(SendRefusal::Full(back)) => {
+            Err(RefusedSend::Full(back)) => {
                 if signs.is_stopped() {
                     return false;
                 }
@@ -191,7 +191,7 @@ fn send<L: BrokerBrand, R: Wait>(
                 signs.pulled.wait(rt, seen, looks);
                 looks = looks.saturating_add(1);
             }
-            Err(SendRefusal::Closed(_, _)) => return false,
+            Err(RefusedSend::Closed(_, _)) => return false,
         }
     }
     unreachable!()

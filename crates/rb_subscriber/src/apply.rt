@@ -73,7 +73,7 @@ fn add<'a>(schema: &Schema, group: &mut Group<'a>, body: &'a Changeset) -> Resul
     match group.add(body) {
         Ok(()) => Ok(()),
         Err(GroupError::Memory) => Err(AllocError),
-        Err(GroupError::Schema { .. }) => unreachable!(),
+        Err(GroupError::Clash { .. }) => unreachable!(),
     }
 }
 

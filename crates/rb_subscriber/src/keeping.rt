@@ -47,7 +47,7 @@ use cs_apply::{ApplyError, Tables};
 use cs_group::laws::groups_apply;
 use cs_model::Changeset;
 use par_apply::laws::plans_apply;
-use par_apply::{DurableRows, Gate, NotCommitted, RowPlan, commit_durably, plan_changes};
+use par_apply::{DurableRows, Gate, RefusedCommit, RowPlan, commit_durably, plan_changes};
 use rb_desk::Delivery;
 use rb_sequence::Entry;
 use std::alloc::Global;
@@ -148,8 +148,8 @@ impl Endpoint {
                 self.cursor = last;
                 Ok(last)
             }
-            Err(NotCommitted::Memory) => Err(KeepError::Memory),
-            Err(NotCommitted::Store(plan, why)) => {
+            Err(RefusedCommit::Memory) => Err(KeepError::Memory),
+            Err(RefusedCommit::Store(plan, why)) => {
                 self.fallen = true;
                 Err(KeepError::Store(plan, why))
             }

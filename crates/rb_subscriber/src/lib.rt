@@ -30,7 +30,7 @@ pub use brought::Brought;
 pub use endpoint::Endpoint;
 pub use lost::Lost;
 pub use refusal::{AcceptError, AcceptRefusal, DurableError, SubscriptionError};
-pub use register::{Auditor, MOST_SUBSCRIPTIONS, Missing, Register};
+pub use register::{Auditor, MOST_SUBSCRIPTIONS, RefusedAudit, Register};
 pub use shown::{Shown, ShownEntries};
 pub use stake::Stake;
 pub use step_ledger::StepLedger;

@@ -72,7 +72,7 @@ impl<L: StepLedger> Model for Auditor<L> {
 
 /// Why `Register::audit` counts nothing: a subscription is missing. These come back as they were.
 #[derive(Drop)]
-pub struct Missing<L: StepLedger> {
+pub struct RefusedAudit<L: StepLedger> {
     pub subscriptions: Vec<Subscription<L>>,
 }
 
@@ -172,14 +172,14 @@ impl<L: StepLedger> Register<L> {
     /// it is the sum of the steps of all subscriptions that the auditor heard. Each had seen all of
     /// its own steps in this history, which the auditor has seen then.
     ///
-    /// Returns `Missing` if the auditor has not heard all that were made, with these. Nothing is
-    /// heard then, but the auditor has seen the history.
+    /// Returns `RefusedAudit` if the auditor has not heard all that were made, with these. Nothing
+    /// is heard then, but the auditor has seen the history.
     pub fn audit(
         &mut self,
         auditor: &mut Auditor<L>,
         subscriptions: Vec<Subscription<L>>,
         all: &mut Chronicle<Step>,
-    ) -> Result<u64, Missing<L>>
+    ) -> Result<u64, RefusedAudit<L>>
         requires all { L.all ≡ 1024 }
         requires name { all.old.name ≡ L.history }
         ensures total { IfOk result (λ sum. (sum ≡ self.old.total)
@@ -199,7 +199,7 @@ impl<L: StepLedger> Register<L> {
         auditor.seen = all.front();
         let given = subscriptions.len() as u64;
         if self.made.checked_sub(auditor.heard) != Some(given) {
-            return Err(Missing { subscriptions });
+            return Err(RefusedAudit { subscriptions });
         }
         for subscription in subscriptions {
             self.hear(auditor, subscription, all);

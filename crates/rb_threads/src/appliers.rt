@@ -23,7 +23,7 @@ const MOST_TURNS: u64 = 5_000;
 // What is applied first, and a changeset in parts, all in hexadecimal. Then the position and the
 // kind of its conflict, and the rows in the end: the key and the values of each.
 #[derive(Drop)]
-struct Case {
+struct ApplierCase {
     first: &'static str,
     changeset: [&'static str; 3],
     conflict: Option<(usize, u8)>,
@@ -38,9 +38,9 @@ const ONE: &str = "5402010074001200010000000000000001030178";
 const GONE: &str = "5402010074000900010000000000000001030178";
 
 // Cases of a table of two columns, the first of which is its key.
-const CASES: [Case; 3] = [
+const CASES: [ApplierCase; 3] = [
     // the greatest key and the least one
-    Case {
+    ApplierCase {
         first: "",
         changeset: [
             HEADER,
@@ -54,7 +54,7 @@ const CASES: [Case; 3] = [
 ",
     },
     // keys 10 to 15, of which 12 and 15 are there
-    Case {
+    ApplierCase {
         first: "540201007400120001000000000000000c030178120001000000000000000f030178",
         changeset: [
             "540201007400120001000000000000000a030178120001000000000000000b030178",
@@ -68,7 +68,7 @@ const CASES: [Case; 3] = [
 ",
     },
     // DELETE and INSERT of one key
-    Case {
+    ApplierCase {
         first: ONE,
         changeset: [GONE, "1200010000000000000001030179", ""],
         conflict: None,
@@ -87,9 +87,9 @@ const SINGLE: [(&str, u8); 5] = [
 ];
 
 // Cases of what SQLite recorded.
-const RECORDED: [Case; 2] = [
+const RECORDED: [ApplierCase; 2] = [
     // the rows that SQLite had
-    Case {
+    ApplierCase {
         first: "",
         changeset: [THREE, FOURTH, FIFTH],
         conflict: None,
@@ -104,7 +104,7 @@ const RECORDED: [Case; 2] = [
 ",
     },
     // the INSERT of a key that is there, between the fourth and the fifth
-    Case {
+    ApplierCase {
         first: THREE,
         changeset: [FOURTH, "54030000017400120005050301c3", FIFTH],
         conflict: Some((6, 3)),
@@ -122,7 +122,7 @@ fn appliers_answer_as_one(rt: HostRuntime) -> Result<(), Fail> {
         goes(&rt, rt.alloc(), &[1, 0], case)?;
     }
     for (change, kind) in SINGLE {
-        let case = Case {
+        let case = ApplierCase {
             first: ONE,
             changeset: [HEADER, change, ""],
             conflict: Some((0, kind)),
@@ -174,7 +174,7 @@ fn goes<R: Threads + Abort + Sync>(
     rt: &R,
     alloc: Global,
     flags: &[u8],
-    case: &Case,
+    case: &ApplierCase,
 ) -> Result<(), Fail> {
     let mut given = tables(alloc, flags)?;
     given.apply(alloc, &changeset(alloc, &[case.first])?)?;
@@ -195,7 +195,7 @@ fn goes<R: Threads + Abort + Sync>(
 fn ends<R: Abort>(
     rt: &R,
     alloc: Global,
-    case: &Case,
+    case: &ApplierCase,
     given: &Tables,
     tables: &Tables,
     answer: Result<(), ApplyError>,

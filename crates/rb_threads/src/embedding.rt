@@ -8,7 +8,7 @@ use anyhow::{Result, bail};
 use cs_apply::Tables;
 use cs_model::{CopyIn, Schema};
 use rb_broker::{
-    Broker, BrokerBrand, Opened, Publisher, PublisherMaker, SendRefusal, StagedSet, Started,
+    Broker, BrokerBrand, Opened, Publisher, PublisherMaker, RefusedSend, StagedSet, Started,
     TakeError,
 };
 use rb_close::finish;
@@ -43,7 +43,7 @@ fn replicate<R: Threads + Wait + Sync, W: Write>(
 
 // What the threads own.
 #[derive(Drop)]
-struct Owners<L: BrokerBrand> {
+struct EmbeddedOwners<L: BrokerBrand> {
     publisher: Publisher<L>,
     sequencer: Sequencer<L>,
     keeper: Stake<L>,
@@ -87,10 +87,10 @@ fn all_owners<L: BrokerBrand, R: Wait>(
     mut keeper: Stake<L>,
     sequencer: Sequencer<L>,
     tables: Tables,
-) -> Result<Owners<L>> {
+) -> Result<EmbeddedOwners<L>> {
     let publisher = maker.make(alloc, broker)?;
     match broker.subscribe(rt, alloc, &mut keeper, tables, 0) {
-        Ok(subscription) => Ok(Owners {
+        Ok(subscription) => Ok(EmbeddedOwners {
             publisher,
             sequencer,
             keeper,
@@ -105,9 +105,9 @@ fn end<L: BrokerBrand, R: Wait>(
     alloc: Global,
     broker: Broker<L>,
     maker: PublisherMaker<L>,
-    owners: Owners<L>,
+    owners: EmbeddedOwners<L>,
 ) -> Result<Subscription<L>> {
-    let Owners {
+    let EmbeddedOwners {
         publisher,
         sequencer,
         subscription,
@@ -135,10 +135,10 @@ fn run_owners<L: BrokerBrand + Send + Sync, R: Threads + Wait + Sync>(
     alloc: Global,
     broker: &Broker<L>,
     all_sent: &AtomicBool,
-    owners: Owners<L>,
+    owners: EmbeddedOwners<L>,
     changesets: &[&[u8]],
-) -> Result<Owners<L>> {
-    let Owners {
+) -> Result<EmbeddedOwners<L>> {
+    let EmbeddedOwners {
         mut publisher,
         sequencer,
         keeper,
@@ -152,7 +152,7 @@ fn run_owners<L: BrokerBrand + Send + Sync, R: Threads + Wait + Sync>(
         let (sequencer, keeper) = placing.join(rt);
         let subscription = accepting?.join(rt)?;
         sent?;
-        Ok(Owners {
+        Ok(EmbeddedOwners {
             publisher,
             sequencer,
             keeper,
@@ -188,8 +188,8 @@ fn send<L: BrokerBrand, R: Wait>(
     for _ in 0..MOST_TURNS {
         match publisher.send(rt, broker, set) {
             Ok(_own) => return Ok(()),
-            Err(SendRefusal::Full(back)) => set = back,
-            Err(SendRefusal::Closed(_last, _set)) => bail!("the sequence is closed"),
+            Err(RefusedSend::Full(back)) => set = back,
+            Err(RefusedSend::Closed(_last, _set)) => bail!("the sequence is closed"),
         }
         thread::yield_now();
     }

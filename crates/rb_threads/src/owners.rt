@@ -8,13 +8,13 @@ use crate::given::{empty_tables, insert, opened, publisher};
 use cs_apply::Tables;
 use cs_model::Origin;
 use rb_broker::{
-    Broker, BrokerBrand, Opened, Publisher, PublisherMaker, SendRefusal, StagedSet, Started,
+    Broker, BrokerBrand, Opened, Publisher, PublisherMaker, RefusedSend, StagedSet, Started,
     WithdrawError,
 };
 use rb_close::{meet, meet_sequencer};
 use rb_sequence::Sequence;
 use rb_sequencer::{Sequencer, Turn};
-use rb_subscriber::{Auditor, Missing, Stake, Subscription};
+use rb_subscriber::{Auditor, RefusedAudit, Stake, Subscription};
 use std::alloc::{AllocError, Global};
 use std::marker::Brand;
 use std::process::Abort;
@@ -290,11 +290,11 @@ fn send<L: BrokerBrand, R: Wait>(
     for _ in 0..MOST_TURNS {
         match publisher.send(rt, broker, set) {
             Ok(_) => return Ok(()),
-            Err(SendRefusal::Full(back)) => {
+            Err(RefusedSend::Full(back)) => {
                 set = back;
                 thread::yield_now();
             }
-            Err(SendRefusal::Closed(_, _)) => return Err("the sequence is closed"),
+            Err(RefusedSend::Closed(_, _)) => return Err("the sequence is closed"),
         }
     }
     Err("the intake stays full")
@@ -429,7 +429,7 @@ fn counts<L: BrokerBrand, R: Wait + Abort>(
     }
     let mut given = subscriptions;
     if let Some(last) = given.pop() {
-        let Err(Missing { subscriptions }) = broker.audit(rt, auditor, given) else {
+        let Err(RefusedAudit { subscriptions }) = broker.audit(rt, auditor, given) else {
             return Err(Fail::new("one subscription is missing"));
         };
         given = subscriptions;

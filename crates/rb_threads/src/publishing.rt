@@ -7,7 +7,7 @@ use crate::history::{History, Said, made};
 use cs_model::Origin;
 use cs_parse::ParseError;
 use rb_broker::{
-    AddError, Broker, BrokerBrand, Occupied, Opened, PlaceError, RefusedItem, SendRefusal, Started,
+    AddError, Broker, BrokerBrand, Occupied, Opened, PlaceError, RefusedItem, RefusedSend, Started,
     WithdrawError,
 };
 use rb_intake::SequencerPass;
@@ -131,11 +131,11 @@ impl<L: BrokerBrand> History<L> {
     }
 }
 
-fn sent<L: BrokerBrand>(answer: Result<u64, SendRefusal<L>>) -> Said {
+fn sent<L: BrokerBrand>(answer: Result<u64, RefusedSend<L>>) -> Said {
     match answer {
         Ok(own) => Said::Sent(own),
-        Err(SendRefusal::Full(_)) => Said::Full,
-        Err(SendRefusal::Closed(last, _)) => Said::Closed(last.last()),
+        Err(RefusedSend::Full(_)) => Said::Full,
+        Err(RefusedSend::Closed(last, _)) => Said::Closed(last.last()),
     }
 }
 

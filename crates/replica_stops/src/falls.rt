@@ -7,7 +7,7 @@ ghost use Rattle.replica_store.specs.Durable.{KeepsRows};
 ghost use Rattle.sqlite.specs.Held.{state};
 
 use crate::disks::{Loss, TestDisk, Wreck, connected, stopping};
-use crate::kept::{Kept, accept_next, gone_on, load, subscribed};
+use crate::kept::{KeptReplica, accept_next, gone_on, load, subscribed};
 use crate::reading::Found;
 use crate::rows::{Commits, FIRST_CURSOR, SECOND_CURSOR, one_table};
 use crate::stand::{Stand, limits};
@@ -38,7 +38,7 @@ enum Fate {
 
 /// What an accept into a replica left.
 #[derive(Drop)]
-enum Left<L: BrokerBrand, S: Alter> {
+enum FallOutcome<L: BrokerBrand, S: Alter> {
     Early,
     Accepted,
     Fell(Lost<L>, Connection<S>),
@@ -177,9 +177,9 @@ fn tried_over<L: BrokerBrand, R: Wait + Threads + Sync>(
         return Ok(Fate::Early);
     };
     match accept_both(rt, alloc, stand, conn, commits)? {
-        Left::Early => Ok(Fate::Early),
-        Left::Accepted => Ok(Fate::Accepted),
-        Left::Fell(lost, conn) => {
+        FallOutcome::Early => Ok(Fate::Early),
+        FallOutcome::Accepted => Ok(Fate::Accepted),
+        FallOutcome::Fell(lost, conn) => {
             let Some(conn) = crashed(alloc, conn, loss, trial.options())? else {
                 return Ok(Fate::Wrong);
             };
@@ -207,24 +207,24 @@ fn accept_both<L: BrokerBrand, S: Alter + Drop, R: Wait + Threads + Sync>(
     stand: &mut Stand<L>,
     conn: Connection<S>,
     commits: &Commits,
-) -> io::Result<Left<L, S>> {
+) -> io::Result<FallOutcome<L, S>> {
     let Ok(replica) = Replica::create(conn, one_table(alloc)?) else {
-        return Ok(Left::Early);
+        return Ok(FallOutcome::Early);
     };
     let Ok(loaded) = load(alloc, replica) else {
-        return Ok(Left::Early);
+        return Ok(FallOutcome::Early);
     };
     let Some(kept) = subscribed(rt, alloc, stand, None, loaded) else {
         return Err(io::Error::other("there is no subscription"));
     };
-    let Kept {
+    let KeptReplica {
         mut subscription,
         mut replica,
     } = kept;
     match accept_in_turn(rt, alloc, stand, &mut subscription, &mut replica, commits)? {
-        0 => Ok(Left::Early),
+        0 => Ok(FallOutcome::Early),
         1 => fall(subscription, replica),
-        _ => Ok(Left::Accepted),
+        _ => Ok(FallOutcome::Accepted),
     }
 }
 
@@ -252,11 +252,11 @@ fn accept_in_turn<L: BrokerBrand, S: Alter + Drop, R: Wait + Threads + Sync>(
 fn fall<L: BrokerBrand, S: Alter + Drop>(
     subscription: Subscription<L>,
     replica: Replica<S>,
-) -> io::Result<Left<L, S>> {
+) -> io::Result<FallOutcome<L, S>> {
     if !subscription.is_fallen() {
         return Err(io::Error::other("the subscription has not fallen"));
     }
-    Ok(Left::Fell(subscription.fall(), replica.into_connection()))
+    Ok(FallOutcome::Fell(subscription.fall(), replica.into_connection()))
 }
 
 // Resumes a subscription with what its replica has, and lets it accept what is left.

@@ -32,14 +32,18 @@ pub struct Loaded<S: Alter> {
 
 /// A subscription, and the replica that has its rows and its cursor.
 #[derive(Drop)]
-pub struct Kept<L: BrokerBrand, S: Alter> {
+pub struct KeptReplica<L: BrokerBrand, S: Alter> {
     pub subscription: Subscription<L>,
     pub replica: Replica<S>,
 }
 
-impl<L: BrokerBrand, S: Alter + Drop> Kept<L, S> {
+impl<L: BrokerBrand, S: Alter + Drop> KeptReplica<L, S> {
     // a subscription with the rows of a replica, if it has its cursor too
-    fn of(subscription: Subscription<L>, replica: Replica<S>, cursor: u64) -> Option<Kept<L, S>>
+    fn of(
+        subscription: Subscription<L>,
+        replica: Replica<S>,
+        cursor: u64,
+    ) -> Option<KeptReplica<L, S>>
         requires { KeepsRows (state S.Store replica.conn) subscription.tables.rows cursor }
         ensures { IfSome result (λ k. KeepsRows (state S.Store k.replica.conn)
             k.subscription.tables.rows (cursor_of k.subscription)) }
@@ -47,7 +51,7 @@ impl<L: BrokerBrand, S: Alter + Drop> Kept<L, S> {
         if subscription.cursor() != cursor {
             return None;
         }
-        Some(Kept {
+        Some(KeptReplica {
             subscription,
             replica,
         })
@@ -80,7 +84,7 @@ pub fn subscribed<L: BrokerBrand, S: Alter + Drop, R: Wait>(
     stand: &mut Stand<L>,
     lost: Option<Lost<L>>,
     loaded: Loaded<S>,
-) -> Option<Kept<L, S>>
+) -> Option<KeptReplica<L, S>>
     requires { KeepsRows (state S.Store loaded.replica.conn) loaded.tables.rows loaded.cursor }
     ensures { IfSome result (λ k. KeepsRows (state S.Store k.replica.conn)
         k.subscription.tables.rows (cursor_of k.subscription)) }
@@ -95,7 +99,7 @@ pub fn subscribed<L: BrokerBrand, S: Alter + Drop, R: Wait>(
         let Ok(subscription) = broker.subscribe(rt, alloc, keeper, tables, cursor) else {
             return None;
         };
-        return Kept::of(subscription, replica, cursor);
+        return KeptReplica::of(subscription, replica, cursor);
     };
     let other = if cursor == lost.before() {
         lost.after()
@@ -113,7 +117,7 @@ pub fn subscribed<L: BrokerBrand, S: Alter + Drop, R: Wait>(
             let Ok(subscription) = stand.broker.resume(rt, alloc, lost, tables, cursor) else {
                 return None;
             };
-            Kept::of(subscription, replica, cursor)
+            KeptReplica::of(subscription, replica, cursor)
         }
         _ => None,
     }
@@ -153,12 +157,12 @@ pub fn gone_on<L: BrokerBrand, S: Alter + Drop, R: Wait + Threads + Sync>(
     rt: &R,
     alloc: Global,
     broker: &Broker<L>,
-    kept: Kept<L, S>,
+    kept: KeptReplica<L, S>,
 ) -> io::Result<Option<Connection<S>>>
     requires { KeepsRows (state S.Store kept.replica.conn) kept.subscription.tables.rows
         (cursor_of kept.subscription) }
 {
-    let Kept {
+    let KeptReplica {
         mut subscription,
         mut replica,
     } = kept;

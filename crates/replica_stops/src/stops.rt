@@ -89,7 +89,12 @@ impl Trial {
     }
 
     // Makes both commits over new files. Nothing is left if one stops before the second begins.
-    fn left(self, alloc: Global, operations: u64, commits: &Commits) -> io::Result<Option<Left>> {
+    fn left(
+        self,
+        alloc: Global,
+        operations: u64,
+        commits: &Commits,
+    ) -> io::Result<Option<LeftFile>> {
         let schema = one_table(alloc)?;
         let files = stopping(alloc, self.file, operations);
         let Ok(conn) = connected(alloc, files, self.options()) else {
@@ -98,7 +103,7 @@ impl Trial {
         let Ok((conn, committed)) = commit_both(conn, schema, commits) else {
             return Ok(None);
         };
-        Ok(Some(Left {
+        Ok(Some(LeftFile {
             wreck: Wreck::of(alloc, conn)?,
             committed,
         }))
@@ -113,7 +118,7 @@ impl fmt::Display for Trial {
 
 /// What a commit leaves.
 #[derive(Drop)]
-struct Left {
+struct LeftFile {
     wreck: Wreck,
     // whether it went through
     committed: bool,

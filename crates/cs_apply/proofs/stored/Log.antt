@@ -6,12 +6,12 @@ use Rattle.std.specs.Map.{values_of}
 use Rattle.indexmap.specs.Layout.{set_value_at, length-set_value_at}
 use Rattle.cs_model.specs.declared.row_key.RowKey.{RowKey}
 use Rattle.cs_model.specs.declared.value.Value.{Value}
-use Rattle.cs_apply.specs.declared.places.Step.{Step}
+use Rattle.cs_apply.specs.declared.places.UndoStep.{UndoStep}
 use Rattle.cs_apply.specs.declared.places.Places.{Places}
 use Rattle.cs_apply.specs.Steps.{Entries, set_at, undone, Back}
 
 -- the step that was logged last is taken back first
-pub undone-push : (log : List Step) (step : Step) (es : Entries) → undone (log ++ step ∷ []) es
+pub undone-push : (log : List UndoStep) (step : UndoStep) (es : Entries) → undone (log ++ step ∷ []) es
     ≡ undone log (set_at step.place step.back es)
 undone-push [] step es = refl
 undone-push (s ∷ log) step es = ap (set_at s.place s.back) (undone-push log step es)
@@ -43,7 +43,7 @@ take-set_at (suc n) place row [] = refl
 take-set_at (suc n) zero row (e ∷ es) = refl
 take-set_at (suc n) (suc place) row (e ∷ es) = ap (λ (l : Entries). e ∷ l) (take-set_at n place row es)
 
-take-undone : (n : ℕ) (log : List Step) (es : Entries) → take n (undone log es) ≡ undone log (take n es)
+take-undone : (n : ℕ) (log : List UndoStep) (es : Entries) → take n (undone log es) ≡ undone log (take n es)
 take-undone n [] es = refl
 take-undone n (step ∷ log) es = take-set_at n step.place step.back (undone log es)
     ∙ ap (set_at step.place step.back) (take-undone n log es)

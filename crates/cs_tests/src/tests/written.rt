@@ -51,7 +51,7 @@ const OWN_MEMORY: &str = "the test's own memory";
 // A sink that takes `room` pieces and then fails. It keeps all pieces that it gets, and stops the
 // test if memory runs out.
 #[derive(Drop)]
-struct Kept<'a, R> {
+struct KeptBytes<'a, R> {
     rt: &'a R,
     alloc: Global,
     room: usize,
@@ -59,7 +59,7 @@ struct Kept<'a, R> {
     failed: Vec<Vec<u8>>,
 }
 
-impl<R: Abort> Sink for Kept<'_, R> {
+impl<R: Abort> Sink for KeptBytes<'_, R> {
     ghost taken = { λ s. map (λ piece. piece.items) s.taken.items };
 
     ghost failed = { λ s. map (λ piece. piece.items) s.failed.items };
@@ -94,7 +94,7 @@ fn puts(
 ) -> Result<(), Fail>
     requires { 0 < max }
 {
-    let mut sink = Kept {
+    let mut sink = KeptBytes {
         rt,
         alloc,
         room,

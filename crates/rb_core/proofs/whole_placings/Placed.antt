@@ -15,7 +15,7 @@ use Rattle.rb_desk.specs.IsPicture.{AreInRange}
 use Rattle.rb_desk.specs.Journaled.{answer_after}
 use Rattle.rb_desk.specs.Limits.{Limits, is_in_range}
 use Rattle.rb_desk.specs.Picture.{Picture}
-use Rattle.rb_deliveries.specs.Lanes.{most_numbers}
+use Rattle.rb_deliveries.specs.Queues.{most_numbers}
 use Rattle.rb_sequence.specs.Item.{Item}
 use Rattle.rb_core.specs.declared.event.Event.TheVariants as event
 use Rattle.rb_core.specs.declared.placing.PlacingRefusal.TheVariants as why

@@ -2,12 +2,12 @@
 use Rattle.std.proofs.Common.{◌≡◌, ℕ, ◌&&◌, true, false, cond, List, [], ◌∷◌, ◌++◌, get_or, eqb, Some}
 use Rattle.std.proofs.Common.{None, refl, sym, ap, ◌∙◌, append_assoc}
 use Rattle.link_lists.specs.Lanes.{Lanes, pushed_back, put_after}
-use Rattle.rb_deliveries.specs.declared.ticket.Held.{Held}
+use Rattle.rb_deliveries.specs.declared.rank.Held.{Held}
 use Rattle.rb_deliveries.specs.Spans.{is_ready, is_out}
 use Rattle.rb_deliveries.specs.Taken.{AddsAfter, AreListed, AreWoven, lists_key, held_or, held_under, nth_list}
 use Rattle.rb_deliveries.specs.Taken.{slot_passes}
 use Rattle.rb_deliveries.proofs.lists.KeyLaws.{SetsSlot, has_as, has_pushed, key_same, not_this_key}
-use Rattle.rb_deliveries.proofs.lists.RiseLaws.{SlotAhead, IsLess, rise_kept, rise_joined, tickets_rise, rise_tickets}
+use Rattle.rb_deliveries.proofs.lists.RiseLaws.{SlotAhead, IsLess, rise_kept, rise_joined, ranks_rise, rise_ranks}
 use Rattle.rb_deliveries.proofs.lists.RiseLaws.{numbers_in_order, in_order_numbers}
 use Rattle.rb_deliveries.proofs.lists.ListedLaws.{still_all, still_listed}
 use Rattle.rb_deliveries.proofs.lists.PutLaws.{put_has_between, put_key_there}
@@ -81,8 +81,8 @@ module _ (old new : Lanes Held) (at key : ℕ) (h : Held) (before after : List �
         out_keys = still_listed is_out old.slots new.slots key (Some h) true out out all all_then sets added_has
             (has_as key (is_out h.span.status) out (not_out ∙ sym rests)) are.listed.out_keys;
         all_keys = still_all old.slots new.slots key (Some h) all all_then sets added_has are.listed.all_keys;
-        in_line = rise_tickets new.slots (ready ++ key ∷ []) (rise_joined SlotAhead old.slots new.slots key (Some h)
-            sets ready (not_this_key key ready not_ready) (tickets_rise old.slots ready are.listed.in_line) last);
+        in_line = rise_ranks new.slots (ready ++ key ∷ []) (rise_joined SlotAhead old.slots new.slots key (Some h)
+            sets ready (not_this_key key ready not_ready) (ranks_rise old.slots ready are.listed.in_line) last);
         by_number = in_order_numbers new.slots out (rise_kept IsLess old.slots new.slots key (Some h) sets out
             (not_this_key key out not_out) (numbers_in_order old.slots out are.listed.by_number));
       }

@@ -3,7 +3,7 @@ use Rattle.std.proofs.Common.{◌≡◌, ℕ, ◌==◌, Bool, true, false, List,
 use Rattle.std.proofs.Common.{Option, None, IfSome, IsSome, inl, inr}
 use Rattle.std.proofs.lemmas.Bool.Decides.{eqb_tells}
 use Rattle.link_lists.specs.Lanes.{Lanes}
-use Rattle.rb_deliveries.specs.declared.ticket.Held.{Held}
+use Rattle.rb_deliveries.specs.declared.rank.Held.{Held}
 use Rattle.rb_deliveries.specs.Taken.{NoSpanBegins, held_under, held_in, nth_list}
 use Rattle.rb_deliveries.proofs.lists.KeyLaws.{all_keys}
 use Rattle.rb_deliveries.proofs.lists.ListedLaws.{if_some_held}

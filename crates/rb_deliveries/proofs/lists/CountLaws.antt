@@ -6,8 +6,8 @@ use Rattle.std.proofs.Math.Dec.{eqb-suc-suc, eqb-suc-zero, eqb-zero-suc}
 use Rattle.std.proofs.lemmas.List.{length-map}
 use Rattle.std.proofs.lemmas.List.Sums.{length-filter}
 use Rattle.link_lists.specs.Lanes.{Lanes, AreLanes, value_count}
-use Rattle.rb_deliveries.specs.declared.ticket.Held.{Held}
-use Rattle.rb_deliveries.specs.Lanes.{spans_of}
+use Rattle.rb_deliveries.specs.declared.rank.Held.{Held}
+use Rattle.rb_deliveries.specs.Queues.{spans_of}
 use Rattle.rb_deliveries.specs.Spans.{how_many_ready}
 use Rattle.rb_deliveries.specs.Taken.{AreWoven, lists_key, held_in, held_under, nth_list}
 use Rattle.rb_deliveries.proofs.spans.ManyLaws.{ready_or_out}

@@ -5,14 +5,14 @@ use Rattle.std.proofs.Common.{subst, ◌∙◌, ◌⊎◌, inl, inr, arith, appe
 use Rattle.std.proofs.lemmas.Bool.Decides.{eqb_tells}
 use Rattle.rb_deliveries.specs.declared.span.Status.{Status}
 use Rattle.rb_deliveries.specs.declared.span.Status.TheVariants.{Ready, InFlight}
-use Rattle.rb_deliveries.specs.declared.ticket.Held.{Held}
-use Rattle.rb_deliveries.specs.declared.ticket.Ticket.{Ticket}
-use Rattle.rb_deliveries.specs.Expiry.{expired_by, ticket_of, turns_from}
-use Rattle.rb_deliveries.specs.Lanes.{earlier}
+use Rattle.rb_deliveries.specs.declared.rank.Held.{Held}
+use Rattle.rb_deliveries.specs.declared.rank.Rank.{Rank}
+use Rattle.rb_deliveries.specs.Expiry.{expired_by, rank_of, turns_from}
+use Rattle.rb_deliveries.specs.Queues.{earlier}
 use Rattle.rb_deliveries.specs.Spans.{is_due, is_out, is_ready}
 use Rattle.rb_deliveries.specs.Subs.{IsGiven}
 use Rattle.rb_deliveries.specs.Taken.{AreListed, lists_key, held_under, number_under, number_of, status_passes}
-use Rattle.rb_deliveries.specs.Taken.{slot_passes, ticket_under}
+use Rattle.rb_deliveries.specs.Taken.{slot_passes, rank_under}
 use Rattle.rb_deliveries.proofs.lists.KeyLaws.{SetsSlot, has_behind, has_first, has_later, key_differs}
 use Rattle.rb_deliveries.proofs.lists.KeyLaws.{key_same, keys_but, left_key, map_through, pushed_key, slot_set}
 use Rattle.rb_deliveries.proofs.lists.KeyLaws.{slot_within}
@@ -24,21 +24,21 @@ use Rattle.rb_deliveries.proofs.lists.MoveLaws.{held_moved, moved_ready}
 
 -- ---- one span that expires
 
-module _ (timeout clock : ℕ) (latest : Ticket) where
+module _ (timeout clock : ℕ) (latest : Rank) where
   pub expired_due : (h : Held) → is_due timeout clock h.span.status ≡ true → expired_by timeout clock latest h
       ≡ record {
         span = record h.span { status = Ready true };
-        ticket = ticket_of (turns_from latest.front latest.turn) h.span.status;
+        rank = rank_of (turns_from latest.front latest.turn) h.span.status;
       }
   expired_due h due = ap (λ b. if b then record {
     span = record h.span { status = Ready true };
-    ticket = ticket_of (turns_from latest.front latest.turn) h.span.status;
+    rank = rank_of (turns_from latest.front latest.turn) h.span.status;
   } else h) due
 
   pub expired_undue : (h : Held) → is_due timeout clock h.span.status ≡ false → expired_by timeout clock latest h ≡ h
   expired_undue h undue = ap (λ b. if b then record {
     span = record h.span { status = Ready true };
-    ticket = ticket_of (turns_from latest.front latest.turn) h.span.status;
+    rank = rank_of (turns_from latest.front latest.turn) h.span.status;
   } else h) undue
 
   -- it expires once
@@ -57,18 +57,18 @@ module _ (timeout clock : ℕ) (latest : Ticket) where
     where
       by_case : (b : Bool) → IsGiven next (if b then record {
         span = record h.span { status = Ready true };
-        ticket = ticket_of (turns_from latest.front latest.turn) h.span.status;
+        rank = rank_of (turns_from latest.front latest.turn) h.span.status;
       } else h).span.status
       by_case true = tt
       by_case false = given
 
-  -- its ticket is that of its delivery's number
-  pub expired_ticket : (h : Held) → is_due timeout clock h.span.status ≡ true →
-      (expired_by timeout clock latest h).ticket ≡ turns_from latest.front latest.turn (number_of h.span.status)
-  expired_ticket h due = ap (λ (x : Held). x.ticket) (expired_due h due) ∙ by_status h.span.status due
+  -- its rank is that of its delivery's number
+  pub expired_rank : (h : Held) → is_due timeout clock h.span.status ≡ true →
+      (expired_by timeout clock latest h).rank ≡ turns_from latest.front latest.turn (number_of h.span.status)
+  expired_rank h due = ap (λ (x : Held). x.rank) (expired_due h due) ∙ by_status h.span.status due
     where
       by_status : (status : Status) → is_due timeout clock status ≡ true →
-          ticket_of (turns_from latest.front latest.turn) status
+          rank_of (turns_from latest.front latest.turn) status
           ≡ turns_from latest.front latest.turn (number_of status)
       by_status (Ready taken) due = absurd cc
       by_status (InFlight number moment) due = refl
@@ -79,15 +79,15 @@ turn_before front turn n m less = grind arith
 -- ---- the lists
 
 -- Of those in flight some were passed, which are not due, and these are left. Each that is ready is in line before the
--- ticket that one of those left would get.
-pub record AreExpiring (timeout clock : ℕ) (latest : Ticket) (next : ℕ) (slots : List (Option Held))
+-- rank that one of those left would get.
+pub record AreExpiring (timeout clock : ℕ) (latest : Rank) (next : ℕ) (slots : List (Option Held))
     (ready kept left all : List ℕ) : Type 0 where
   pub listed : AreListed slots ready (kept ++ left) all
   pub undue : (k : ℕ) → lists_key k kept ≡ true → slot_passes (is_due timeout clock) slots k ≡ false
   pub given : (k : ℕ) → lists_key k all ≡ true → IsGiven next (held_under slots k).span.status
   pub there : (k : ℕ) → lists_key k all ≡ true → IsSome (get_or slots k None)
   pub line : (k j : ℕ) → lists_key k ready ≡ true → lists_key j left ≡ true →
-      earlier (ticket_under slots k) (turns_from latest.front latest.turn (number_under slots j)) ≡ true
+      earlier (rank_under slots k) (turns_from latest.front latest.turn (number_under slots j)) ≡ true
 
 but_between : (front : List ℕ) (key : ℕ) (back : List ℕ) →
     ((k : ℕ) → lists_key k front ≡ true → eqb key k ≡ false) → ((k : ℕ) → lists_key k back ≡ true → eqb key k ≡ false) →
@@ -101,7 +101,7 @@ but_between (k ∷ front) key back before after =
     ∙ ap (λ ks. k ∷ ks)
     (but_between front key back (λ q there. before q (has_later q k front there)) after)
 
-module _ (timeout clock : ℕ) (latest : Ticket) (next : ℕ) (slots : List (Option Held)) (ready kept all : List ℕ) where
+module _ (timeout clock : ℕ) (latest : Rank) (next : ℕ) (slots : List (Option Held)) (ready kept all : List ℕ) where
   -- where none is left, none of all is due
   pub all_expired : AreExpiring timeout clock latest next slots ready kept [] all →
       map (expired_by timeout clock latest) (map (held_under slots) all) ≡ map (held_under slots) all
@@ -171,8 +171,8 @@ module _ (timeout clock : ℕ) (latest : Ticket) (next : ℕ) (slots : List (Opt
         is_due_there : is_due timeout clock (held_under slots key).span.status ≡ true
         is_due_there = passed_held (is_due timeout clock) (get_or slots key None) due
 
-        own_ticket : expired.ticket ≡ turns_from latest.front latest.turn (number_under slots key)
-        own_ticket = expired_ticket timeout clock latest (held_under slots key) is_due_there
+        own_rank : expired.rank ≡ turns_from latest.front latest.turn (number_under slots key)
+        own_rank = expired_rank timeout clock latest (held_under slots key) is_due_there
 
         sets : SetsSlot key (Some expired) slots slots_then
         sets = slot_set slots key (Some expired)
@@ -191,22 +191,22 @@ module _ (timeout clock : ℕ) (latest : Ticket) (next : ℕ) (slots : List (Opt
         out_then = but_between kept key left kept_apart left_apart
 
         line_then : (k j : ℕ) → (key ≡ k) ⊎ (lists_key k (keys_but key ready) ≡ true) → lists_key j left ≡ true →
-            earlier (ticket_under slots_then k) (turns_from latest.front latest.turn (number_under slots_then j)) ≡ true
+            earlier (rank_under slots_then k) (turns_from latest.front latest.turn (number_under slots_then j)) ≡ true
         line_then k j where_it_is flies =
-            subst (λ h. earlier (ticket_under slots_then k)
+            subst (λ h. earlier (rank_under slots_then k)
             (turns_from latest.front latest.turn (number_of h.span.status)) ≡ true)
             (sym (other_then j (left_apart j flies))) (by_where where_it_is)
           where
             by_where : (key ≡ k) ⊎ (lists_key k (keys_but key ready) ≡ true) →
-                earlier (ticket_under slots_then k) (turns_from latest.front latest.turn (number_under slots j)) ≡ true
+                earlier (rank_under slots_then k) (turns_from latest.front latest.turn (number_under slots j)) ≡ true
             by_where (inl same) =
                 subst (λ t. earlier t (turns_from latest.front latest.turn (number_under slots j)) ≡ true)
-                (sym (ap (ticket_under slots_then) (sym same) ∙ ap (λ (h : Held). h.ticket) own_then ∙ own_ticket))
+                (sym (ap (rank_under slots_then) (sym same) ∙ ap (λ (h : Held). h.rank) own_then ∙ own_rank))
                 (turn_before latest.front latest.turn (number_under slots key) (number_under slots j)
                 (number_less j flies))
             by_where (inr waits) =
                 let l = left_key key k ready waits in
-                subst (λ h. earlier h.ticket (turns_from latest.front latest.turn (number_under slots j)) ≡ true)
+                subst (λ h. earlier h.rank (turns_from latest.front latest.turn (number_under slots j)) ≡ true)
                 (sym (other_then k l.1)) (are.line k j l.0 (has_later j key left flies))
 
         pub due_expires : AreExpiring timeout clock latest next slots_then (keys_but key ready ++ key ∷ []) kept left
@@ -218,7 +218,7 @@ module _ (timeout clock : ℕ) (latest : Ticket) (next : ℕ) (slots : List (Opt
                     (expired_due timeout clock latest (held_under slots key) is_due_there),
                 ap (λ (h : Held). is_out h.span.status)
                     (expired_due timeout clock latest (held_under slots key) is_due_there),
-                λ k waits. subst (λ t. earlier (ticket_under slots k) t ≡ true) (sym own_ticket)
+                λ k waits. subst (λ t. earlier (rank_under slots k) t ≡ true) (sym own_rank)
                     (are.line k key waits (has_first key left)),
               ));
           undue = λ k passed.

@@ -4,14 +4,14 @@ use Rattle.std.proofs.Common.{map, length, set, Option, Some, refl, sym, ap, sub
 use Rattle.std.proofs.Common.{if◌then◌else◌}
 use Rattle.std.specs.List.{AllByRecursion}
 use Rattle.link_lists.specs.Lanes.{Lanes, AreLanes, IsKeyAfter, first_key, pushed_back, without_key}
-use Rattle.rb_deliveries.specs.declared.ticket.Held.{Held}
-use Rattle.rb_deliveries.specs.declared.ticket.Ticket.{Ticket}
+use Rattle.rb_deliveries.specs.declared.rank.Held.{Held}
+use Rattle.rb_deliveries.specs.declared.rank.Rank.{Rank}
 use Rattle.rb_deliveries.specs.Expiry.{expired_by, turns_from}
-use Rattle.rb_deliveries.specs.Lanes.{earlier}
+use Rattle.rb_deliveries.specs.Queues.{earlier}
 use Rattle.rb_deliveries.specs.Spans.{is_due}
 use Rattle.rb_deliveries.specs.Subs.{IsDrawn, IsGiven}
 use Rattle.rb_deliveries.specs.Taken.{AreWoven, expired_key, held_under, held_in, nth_list, number_under, slot_passes}
-use Rattle.rb_deliveries.specs.Taken.{ticket_under}
+use Rattle.rb_deliveries.specs.Taken.{rank_under}
 use Rattle.rb_deliveries.proofs.lists.KeyLaws.{keys_but, key_of_all}
 use Rattle.rb_deliveries.proofs.lists.ListedLaws.{ready_key}
 use Rattle.rb_deliveries.proofs.lists.OnceLaws.{all_there}
@@ -19,7 +19,7 @@ use Rattle.rb_deliveries.proofs.lists.StandLaws.{StandAs, held_stand, standing}
 use Rattle.rb_deliveries.proofs.lists.ExpireKeys.{AreExpiring, all_expired, due_expires, kept_expires}
 use Rattle.rb_deliveries.proofs.lists.ExpireKeys.{out_then, spans_expire}
 
-module _ (timeout clock : ℕ) (latest : Ticket) (next : ℕ) where
+module _ (timeout clock : ℕ) (latest : Rank) (next : ℕ) where
   -- so many keys were passed, and expiring what is there gives what expiring the spans from the start does
   pub record IsExpiring (start now : Lanes Held) (flying i : ℕ) (at : Option ℕ) : Type 0 where
     pub slots : List (Option Held)
@@ -38,7 +38,7 @@ module _ (timeout clock : ℕ) (latest : Ticket) (next : ℕ) where
     -- it begins with none passed
     pub expiry_begins : AreLanes start → AreWoven start → flying ≡ length (nth_list 1 start.first) →
         AllByRecursion (λ h. IsGiven next h.span.status) (held_in start) →
-        AllByRecursion (λ h. IsDrawn latest.front latest.turn h.ticket) (held_in start) →
+        AllByRecursion (λ h. IsDrawn latest.front latest.turn h.rank) (held_in start) →
         (at : Option ℕ) → at ≡ first_key (nth_list 1 start.first) → IsExpiring start start flying 0 at
     expiry_begins valid are many given drawn at stands = record {
       slots = start.slots;
@@ -54,8 +54,8 @@ module _ (timeout clock : ℕ) (latest : Ticket) (next : ℕ) where
             key_of_all (λ h. IsGiven next h.span.status) (held_under start.slots)
             (nth_list 0 start.second) k given there;
         there = all_there start valid are;
-        line = λ k j waits flies. in_line (ticket_under start.slots k) (number_under start.slots j)
-            (key_of_all (λ h. IsDrawn latest.front latest.turn h.ticket) (held_under start.slots)
+        line = λ k j waits flies. in_line (rank_under start.slots k) (number_under start.slots j)
+            (key_of_all (λ h. IsDrawn latest.front latest.turn h.rank) (held_under start.slots)
             (nth_list 0 start.second) k drawn
             (ready_key start.slots (nth_list 0 start.first) (nth_list 1 start.first)
             (nth_list 0 start.second) are.listed k
@@ -66,7 +66,7 @@ module _ (timeout clock : ℕ) (latest : Ticket) (next : ℕ) where
       spans = refl;
     }
       where
-        in_line : (t : Ticket) (n : ℕ) → IsDrawn latest.front latest.turn t →
+        in_line : (t : Rank) (n : ℕ) → IsDrawn latest.front latest.turn t →
             earlier t (turns_from latest.front latest.turn n) ≡ true
         in_line t n drawn = later t.front t.turn drawn.0 drawn.1
           where

@@ -4,8 +4,8 @@ use Rattle.std.proofs.Common.{Option, Some, None, IsSome, option_map, find, refl
 use Rattle.std.proofs.lemmas.Bool.Decides.{eqb_tells}
 use Rattle.rb_deliveries.specs.declared.span.Span.{Span}
 use Rattle.rb_deliveries.specs.declared.span.Status.{Status}
-use Rattle.rb_deliveries.specs.declared.ticket.Held.{Held}
-use Rattle.rb_deliveries.specs.Lanes.{spans_of}
+use Rattle.rb_deliveries.specs.declared.rank.Held.{Held}
+use Rattle.rb_deliveries.specs.Queues.{spans_of}
 use Rattle.rb_deliveries.specs.Taken.{lists_key, held_under, held_or, slot_passes}
 use Rattle.rb_deliveries.proofs.lists.KeyLaws.{has_first, has_later, pushed_key}
 use Rattle.rb_deliveries.proofs.lists.WalkLaws.{IsWalk, walk_at}

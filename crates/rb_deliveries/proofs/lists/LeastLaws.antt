@@ -1,4 +1,4 @@
--- The first of a list: of all spans, and of those in line, whose ticket is the least.
+-- The first of a list: of all spans, and of those in line, whose rank is the least.
 use Rattle.std.proofs.Common.{◌≡◌, ℕ, ◌||◌, ◌&&◌, Bool, true, false, List, [], ◌∷◌, ◌++◌, map, get_or}
 use Rattle.std.proofs.Common.{Option, Some, None, option_map, slice_get, refl, sym, ap, subst, ◌∙◌, ◌⊎◌, inl, inr}
 use Rattle.std.proofs.Common.{if◌then◌else◌}
@@ -7,13 +7,13 @@ use Rattle.std.proofs.lemmas.Bool.Decides.{eqb_tells}
 use Rattle.std.proofs.lemmas.List.{map-append}
 use Rattle.link_lists.specs.Lanes.{Lanes, AreLanes, first_key}
 use Rattle.rb_deliveries.specs.declared.span.Span.{Span}
-use Rattle.rb_deliveries.specs.declared.ticket.Held.{Held}
-use Rattle.rb_deliveries.specs.Lanes.{better, earlier, least}
+use Rattle.rb_deliveries.specs.declared.rank.Held.{Held}
+use Rattle.rb_deliveries.specs.Queues.{better, earlier, least}
 use Rattle.rb_deliveries.specs.Spans.{is_ready}
 use Rattle.rb_deliveries.specs.Taken.{AreWoven, lists_key, held_under, held_in, nth_list, slot_passes}
 use Rattle.rb_deliveries.proofs.orders.Line.{earlier_asymmetric}
 use Rattle.rb_deliveries.proofs.lists.KeyLaws.{all_keys, has_first}
-use Rattle.rb_deliveries.proofs.lists.RiseLaws.{SlotAhead, SlotsRise, tickets_rise}
+use Rattle.rb_deliveries.proofs.lists.RiseLaws.{SlotAhead, SlotsRise, ranks_rise}
 use Rattle.rb_deliveries.proofs.lists.ListedLaws.{both_hold, passed_held, passed_some, some_held}
 use Rattle.rb_deliveries.proofs.lists.ReadyLaws.{no_first, ready_alike}
 use Rattle.rb_deliveries.proofs.lists.FindLaws.{span_there}
@@ -44,15 +44,15 @@ first_span lanes valid are at key front is r span =
     (all_there lanes valid are key (front_has (nth_list 0 lanes.second) key (sym is ∙ front)))
     ∙ sym (ap (option_map (λ h. h.span)) (first_held lanes at front ∙ ap (option_map (held_under lanes.slots)) is))
 
--- ---- the least ticket
+-- ---- the least rank
 
 -- a span that is ready is this one, or in line behind it
 abbrev AtOrBehind : Held → Held → Type 0
-AtOrBehind h x = is_ready x.span.status ≡ true → (x ≡ h) ⊎ (earlier h.ticket x.ticket ≡ true)
+AtOrBehind h x = is_ready x.span.status ≡ true → (x ≡ h) ⊎ (earlier h.rank x.rank ≡ true)
 
 abbrev NoneAhead : Held → Option Held → Type 0
 NoneAhead h None = Unit {0}
-NoneAhead h (Some x) = (x ≡ h) ⊎ (earlier h.ticket x.ticket ≡ true)
+NoneAhead h (Some x) = (x ≡ h) ⊎ (earlier h.rank x.rank ≡ true)
 
 module _ (h : Held) where
   least_behind : (xs : List Held) → AllByRecursion (AtOrBehind h) xs → NoneAhead h (least xs)
@@ -63,33 +63,33 @@ module _ (h : Held) where
           NoneAhead h (better (if b then Some x else None) o)
       by_ready false waits o behind = behind
       by_ready true ready None behind = all.0 ready
-      by_ready true ready (Some y) behind = by_ticket (earlier y.ticket x.ticket)
+      by_ready true ready (Some y) behind = by_rank (earlier y.rank x.rank)
         where
-          by_ticket : (b : Bool) → NoneAhead h (if b then Some y else Some x)
-          by_ticket true = behind
-          by_ticket false = all.0 ready
+          by_rank : (b : Bool) → NoneAhead h (if b then Some y else Some x)
+          by_rank true = behind
+          by_rank false = all.0 ready
 
   -- of two of which one is this, and the other this or behind it, this one
   before_behind : (o : Option Held) → NoneAhead h o → better (Some h) o ≡ Some h
   before_behind None behind = refl
   before_behind (Some y) behind = elim behind [
-    | inl same ↦ by_ticket (earlier y.ticket h.ticket) same
-    | inr later ↦ ap (λ b. if b then Some y else Some h) (earlier_asymmetric h.ticket y.ticket later)
+    | inl same ↦ by_rank (earlier y.rank h.rank) same
+    | inr later ↦ ap (λ b. if b then Some y else Some h) (earlier_asymmetric h.rank y.rank later)
   ]
     where
-      by_ticket : (b : Bool) → y ≡ h → (if b then Some y else Some h) ≡ Some h
-      by_ticket true same = ap (λ (z : Held). Some z) same
-      by_ticket false same = refl
+      by_rank : (b : Bool) → y ≡ h → (if b then Some y else Some h) ≡ Some h
+      by_rank true same = ap (λ (z : Held). Some z) same
+      by_rank false same = refl
 
-  behind_this : (x : Held) → (x ≡ h) ⊎ (earlier h.ticket x.ticket ≡ true) → better (Some x) (Some h) ≡ Some h
+  behind_this : (x : Held) → (x ≡ h) ⊎ (earlier h.rank x.rank ≡ true) → better (Some x) (Some h) ≡ Some h
   behind_this x behind = elim behind [
-    | inl same ↦ by_ticket (earlier h.ticket x.ticket) same
+    | inl same ↦ by_rank (earlier h.rank x.rank) same
     | inr later ↦ ap (λ b. if b then Some h else Some x) later
   ]
     where
-      by_ticket : (b : Bool) → x ≡ h → (if b then Some h else Some x) ≡ Some h
-      by_ticket true same = refl
-      by_ticket false same = ap (λ (z : Held). Some z) same
+      by_rank : (b : Bool) → x ≡ h → (if b then Some h else Some x) ≡ Some h
+      by_rank true same = refl
+      by_rank false same = ap (λ (z : Held). Some z) same
 
   least_found : (front back : List Held) → is_ready h.span.status ≡ true →
       AllByRecursion (AtOrBehind h) (front ++ h ∷ back) → least (front ++ h ∷ back) ≡ Some h
@@ -120,13 +120,13 @@ stands_between key (k ∷ keys) there =
           record { front = k ∷ s.front; back = s.back; parts = ap (λ ks. k ∷ ks) s.parts }
     ]
 
--- the front of the line has the least ticket
+-- the front of the line has the least rank
 module _ (lanes : Lanes Held) (are : AreWoven lanes) where
   pub least_front : (at : Option ℕ) (key : ℕ) → at ≡ first_key (nth_list 0 lanes.first) → at ≡ Some key →
       least (held_in lanes) ≡ Some (held_under lanes.slots key)
   least_front at key front is =
       by_line (nth_list 0 lanes.first) (sym is ∙ front) are.listed.ready_keys
-      (tickets_rise lanes.slots (nth_list 0 lanes.first) are.listed.in_line)
+      (ranks_rise lanes.slots (nth_list 0 lanes.first) are.listed.in_line)
     where
       by_line : (line : List ℕ) → Some key ≡ first_key line →
           ((k : ℕ) → lists_key k line ≡ (lists_key k (nth_list 0 lanes.second) && slot_passes is_ready lanes.slots k)) →

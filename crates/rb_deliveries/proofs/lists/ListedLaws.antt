@@ -3,7 +3,7 @@ use Rattle.std.proofs.Common.{◌≡◌, ℕ, ◌<◌, ◌&&◌, Bool, true, fal
 use Rattle.std.proofs.Common.{Option, Some, None, IfSome, IsSome, is_some, refl, sym, ap, ◌∙◌}
 use Rattle.rb_deliveries.specs.declared.span.Status.{Status}
 use Rattle.rb_deliveries.specs.declared.span.Status.TheVariants.{Ready, InFlight}
-use Rattle.rb_deliveries.specs.declared.ticket.Held.{Held}
+use Rattle.rb_deliveries.specs.declared.rank.Held.{Held}
 use Rattle.rb_deliveries.specs.Spans.{is_ready, is_out}
 use Rattle.rb_deliveries.specs.Subs.{IsGiven, IsNewest}
 use Rattle.rb_deliveries.specs.Taken.{AreListed, lists_key, held_under, held_or, number_of, status_passes, slot_passes}

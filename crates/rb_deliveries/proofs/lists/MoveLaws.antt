@@ -4,11 +4,11 @@ use Rattle.std.proofs.Common.{get_or, set, eqb, Option, Some, None, IsSome, refl
 use Rattle.std.proofs.Common.{length-append}
 use Rattle.link_lists.specs.declared.lane.Lane.TheVariants.{First, Second}
 use Rattle.link_lists.specs.Lanes.{Lanes, ChangesSlot, StandsIn, with_lane, pushed_back, without_key}
-use Rattle.rb_deliveries.specs.declared.ticket.Held.{Held}
+use Rattle.rb_deliveries.specs.declared.rank.Held.{Held}
 use Rattle.rb_deliveries.specs.Spans.{is_ready, is_out}
 use Rattle.rb_deliveries.specs.Taken.{AreListed, AreWoven, lists_key, held_under, held_in, held_or, nth_list}
 use Rattle.rb_deliveries.proofs.lists.KeyLaws.{SetsSlot, has_as, has_but, has_moved, keys_but, slot_set, slot_within}
-use Rattle.rb_deliveries.proofs.lists.RiseLaws.{SlotAhead, IsLess, rise_gone, rise_moved, tickets_rise, rise_tickets}
+use Rattle.rb_deliveries.proofs.lists.RiseLaws.{SlotAhead, IsLess, rise_gone, rise_moved, ranks_rise, rise_ranks}
 use Rattle.rb_deliveries.proofs.lists.RiseLaws.{numbers_in_order, in_order_numbers}
 use Rattle.rb_deliveries.proofs.lists.ListedLaws.{still_all, still_listed}
 use Rattle.rb_deliveries.proofs.lists.StandLaws.{StandAs, standing, records_stand, held_stand, out_stand, step_unlinked}
@@ -16,7 +16,7 @@ use Rattle.rb_deliveries.proofs.lists.StandLaws.{slot_changed, stands_nowhere, s
 
 -- ---- the lists
 
--- it is ready, and its ticket comes after those of all that are
+-- it is ready, and its rank comes after those of all that are
 abbrev pub WaitsLast : List (Option Held) → List ℕ → Held → Type 0
 WaitsLast slots ready x = (is_ready x.span.status ≡ true) × (is_out x.span.status ≡ false)
     × ((k : ℕ) → lists_key k ready ≡ true → SlotAhead (get_or slots k None) (Some x))
@@ -40,8 +40,8 @@ module _ (old new : List (Option Held)) (key : ℕ) (x : Held) (ready out all : 
         (λ other. has_but key other out ∙ ap (λ b. cond (eqb key other) b (lists_key other out)) (sym last.1))
         listed.out_keys;
     all_keys = still_all old new key (Some x) all all sets (has_as key true all there) listed.all_keys;
-    in_line = rise_tickets new (keys_but key ready ++ key ∷ [])
-        (rise_moved SlotAhead old new key (Some x) sets ready (tickets_rise old ready listed.in_line) last.2);
+    in_line = rise_ranks new (keys_but key ready ++ key ∷ [])
+        (rise_moved SlotAhead old new key (Some x) sets ready (ranks_rise old ready listed.in_line) last.2);
     by_number = in_order_numbers new (keys_but key out)
         (rise_gone IsLess old new key (Some x) sets out (numbers_in_order old out listed.by_number));
   }
@@ -57,8 +57,8 @@ module _ (old new : List (Option Held)) (key : ℕ) (x : Held) (ready out all : 
         (λ other. has_moved key other out ∙ ap (λ b. cond (eqb key other) b (lists_key other out)) (sym last.1))
         listed.out_keys;
     all_keys = still_all old new key (Some x) all all sets (has_as key true all there) listed.all_keys;
-    in_line = rise_tickets new (keys_but key ready)
-        (rise_gone SlotAhead old new key (Some x) sets ready (tickets_rise old ready listed.in_line));
+    in_line = rise_ranks new (keys_but key ready)
+        (rise_gone SlotAhead old new key (Some x) sets ready (ranks_rise old ready listed.in_line));
     by_number = in_order_numbers new (keys_but key out ++ key ∷ [])
         (rise_moved IsLess old new key (Some x) sets out (numbers_in_order old out listed.by_number) last.2);
   }
@@ -81,8 +81,8 @@ module _ (old new : List (Option Held)) (key : ℕ) (ready out all : List ℕ) (
     out_keys = still_listed is_out old new key None false out (keys_but key out) all (keys_but key all) sets
         (λ other. has_but key other all) (λ other. has_but key other out) listed.out_keys;
     all_keys = still_all old new key None all (keys_but key all) sets (λ other. has_but key other all) listed.all_keys;
-    in_line = rise_tickets new (keys_but key ready)
-        (rise_gone SlotAhead old new key None sets ready (tickets_rise old ready listed.in_line));
+    in_line = rise_ranks new (keys_but key ready)
+        (rise_gone SlotAhead old new key None sets ready (ranks_rise old ready listed.in_line));
     by_number = in_order_numbers new (keys_but key out)
         (rise_gone IsLess old new key None sets out (numbers_in_order old out listed.by_number));
   }

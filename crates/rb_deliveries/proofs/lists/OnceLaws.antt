@@ -8,7 +8,7 @@ use Rattle.std.proofs.lemmas.Bool.Decides.{eqb_tells}
 use Rattle.std.proofs.lemmas.Cmp.{nat_eq_equiv}
 use Rattle.std.proofs.lemmas.Map.Made.{length-le_from_is_member}
 use Rattle.link_lists.specs.Lanes.{Lanes, AreLanes, lane_keys}
-use Rattle.rb_deliveries.specs.declared.ticket.Held.{Held}
+use Rattle.rb_deliveries.specs.declared.rank.Held.{Held}
 use Rattle.rb_deliveries.specs.Spans.{is_out}
 use Rattle.rb_deliveries.specs.Taken.{AreListed, AreWoven, lists_key, nth_list, slot_passes}
 use Rattle.rb_deliveries.proofs.lists.KeyLaws.{has_first, has_later, keys_but, not_this_key}

@@ -8,13 +8,13 @@ use Rattle.std.proofs.lemmas.Bool.Decides.{eqb_tells}
 use Rattle.std.proofs.lemmas.List.{map-append}
 use Rattle.link_lists.specs.declared.lane.Lane.TheVariants.{First}
 use Rattle.link_lists.specs.Lanes.{Lanes, pushed_back, with_lane}
-use Rattle.rb_deliveries.specs.declared.ticket.Held.{Held}
-use Rattle.rb_deliveries.specs.declared.ticket.Ticket.{Ticket}
-use Rattle.rb_deliveries.specs.Lanes.{HeldRise, earlier}
-use Rattle.rb_deliveries.specs.Opening.{RiseFromOne, opened_held, single_held, singles_held, ticket_after}
+use Rattle.rb_deliveries.specs.declared.rank.Held.{Held}
+use Rattle.rb_deliveries.specs.declared.rank.Rank.{Rank}
+use Rattle.rb_deliveries.specs.Queues.{HeldRise, earlier}
+use Rattle.rb_deliveries.specs.Opening.{RiseFromOne, opened_held, single_held, singles_held, rank_after}
 use Rattle.rb_deliveries.specs.Subs.{IsDrawn}
 use Rattle.rb_deliveries.specs.Taken.{AddsAfter, AreWoven, IsKeyOf, NoSpanBegins, lists_key, held_in, held_under}
-use Rattle.rb_deliveries.specs.Taken.{nth_list, ticket_under}
+use Rattle.rb_deliveries.specs.Taken.{nth_list, rank_under}
 use Rattle.rb_deliveries.proofs.lists.KeyLaws.{all_keys, has_behind, has_in_front, has_later, key_of_all}
 use Rattle.rb_deliveries.proofs.lists.KeyLaws.{key_same, keys_but, map_keys, not_this_key}
 use Rattle.rb_deliveries.proofs.lists.ListedLaws.{ready_key}
@@ -26,27 +26,27 @@ use Rattle.rb_deliveries.proofs.lists.AddLaws.{added_free, added_has, added_keys
 use Rattle.rb_deliveries.proofs.lists.AddLaws.{added_same}
 use Rattle.rb_deliveries.proofs.spans.OpenedLaws.{opened_between, singles_more}
 
--- ---- tickets
+-- ---- ranks
 
--- a ticket that was drawn comes before that of each number from 1 on
-opened_drawn_before : (latest t : Ticket) (n : ℕ) → IsDrawn latest.front latest.turn t → 1 ≤ n →
-    earlier t (ticket_after latest n) ≡ true
+-- a rank that was drawn comes before that of each number from 1 on
+opened_drawn_before : (latest t : Rank) (n : ℕ) → IsDrawn latest.front latest.turn t → 1 ≤ n →
+    earlier t (rank_after latest n) ≡ true
 opened_drawn_before latest t n drawn some = before t.front t.turn latest.front latest.turn drawn.0 drawn.1
   where
     before : (f u g v : ℕ) → f ≤ g → u ≤ v →
         earlier (record { front = f; turn = u }) (record { front = g; turn = v + n }) ≡ true
     before f u g v front turn = grind arith
 
--- a lesser number's ticket comes before it
-less_before : (latest : Ticket) (m n : ℕ) → m < n → earlier (ticket_after latest m) (ticket_after latest n) ≡ true
+-- a lesser number's rank comes before it
+less_before : (latest : Rank) (m n : ℕ) → m < n → earlier (rank_after latest m) (rank_after latest n) ≡ true
 less_before latest m n less = before latest.front latest.turn
   where
     before : (g v : ℕ) → earlier (record { front = g; turn = v + m }) (record { front = g; turn = v + n }) ≡ true
     before g v = grind arith
 
--- what comes before a number's ticket comes before that of the next number
-before_next : (latest t : Ticket) (n : ℕ) → earlier t (ticket_after latest n) ≡ true →
-    earlier t (ticket_after latest (n + 1)) ≡ true
+-- what comes before a number's rank comes before that of the next number
+before_next : (latest t : Rank) (n : ℕ) → earlier t (rank_after latest n) ≡ true →
+    earlier t (rank_after latest (n + 1)) ≡ true
 before_next latest t n is = next t.front t.turn latest.front latest.turn is
   where
     next : (f u g v : ℕ) → earlier (record { front = f; turn = u }) (record { front = g; turn = v + n }) ≡ true →
@@ -85,7 +85,7 @@ module _ (f : ℕ → Held) where
 
 -- The numbers from `first` to n are spans of their own, the last of them under key `at`. Opening what was there at the
 -- start gives what stands before them, all numbers of the span, and what stands after it.
-pub record IsOpening (first last : ℕ) (latest : Ticket) (start : List Held) (now : Lanes Held) (flying n at : ℕ)
+pub record IsOpening (first last : ℕ) (latest : Rank) (start : List Held) (now : Lanes Held) (flying n at : ℕ)
     : Type 0 where
   pub before : List ℕ
   pub after : List ℕ
@@ -104,13 +104,13 @@ pub record IsOpening (first last : ℕ) (latest : Ticket) (start : List Held) (n
   pub whole : opened_held first latest start ≡ front ++ (singles_held latest first (suc last - first) ++ back)
   pub room : last ≤ n + now.spare
   pub line : (k : ℕ) → lists_key k (nth_list 0 now.second) ≡ true →
-      earlier (ticket_under now.slots k) (ticket_after latest (n + 1)) ≡ true
+      earlier (rank_under now.slots k) (rank_after latest (n + 1)) ≡ true
 
 -- ---- it begins
 
-module _ (old one two new : Lanes Held) (first last key flying : ℕ) (latest : Ticket) (are : AreWoven old)
+module _ (old one two new : Lanes Held) (first last key flying : ℕ) (latest : Rank) (are : AreWoven old)
     (rising : RiseFromOne (held_in old))
-    (drawn : AllByRecursion (λ h. IsDrawn latest.front latest.turn h.ticket) (held_in old))
+    (drawn : AllByRecursion (λ h. IsDrawn latest.front latest.turn h.rank) (held_in old))
     (is : IsKeyOf old first key) (moves : KeyMoves old one two key (λ h. single_held latest first))
     (joins : new ≡ with_lane First (pushed_back 0 key two.first) two) where
   abbrev all : List ℕ
@@ -124,9 +124,9 @@ module _ (old one two new : Lanes Held) (first last key flying : ℕ) (latest : 
       let n = key_numbers (held_under old.slots) 1 all rising.0 rising.1 key is.there in
       (omega (arith, n.0, is.begins), omega (arith, n.1, is.begins))
 
-  drawn_there : (k : ℕ) → lists_key k all ≡ true → IsDrawn latest.front latest.turn (ticket_under old.slots k)
+  drawn_there : (k : ℕ) → lists_key k all ≡ true → IsDrawn latest.front latest.turn (rank_under old.slots k)
   drawn_there k there =
-      key_of_all (λ h. IsDrawn latest.front latest.turn h.ticket) (held_under old.slots) all k drawn there
+      key_of_all (λ h. IsDrawn latest.front latest.turn h.rank) (held_under old.slots) all k drawn there
 
   moved : (k : ℕ) → held_under slots_then k ≡ cond (eqb key k) (single_held latest first) (held_under old.slots k)
   moved = held_moved old.slots slots_then key (single_held latest first)
@@ -137,7 +137,7 @@ module _ (old one two new : Lanes Held) (first last key flying : ℕ) (latest : 
       line_records old one two new key (λ h. single_held latest first) are moves is.there is.kept joins (
         refl,
         refl,
-        λ k there. opened_drawn_before latest (ticket_under old.slots k) first
+        λ k there. opened_drawn_before latest (rank_under old.slots k) first
             (drawn_there k (ready_key old.slots (nth_list 0 old.first) (nth_list 1 old.first) all are.listed k
             there).0)
             numbers_there.0,
@@ -166,16 +166,16 @@ module _ (old one two new : Lanes Held) (first last key flying : ℕ) (latest : 
       begins_one old first key is (1, rising.0, rising.1) k (among k there) ∙ not_this_key key keys free k there)
 
   begun_line : (k : ℕ) → lists_key k all ≡ true →
-      earlier (ticket_under new.slots k) (ticket_after latest (first + 1)) ≡ true
+      earlier (rank_under new.slots k) (rank_after latest (first + 1)) ≡ true
   begun_line k there =
-      subst (λ (h : Held). earlier h.ticket (ticket_after latest (first + 1)) ≡ true) (sym (then_under k))
+      subst (λ (h : Held). earlier h.rank (rank_after latest (first + 1)) ≡ true) (sym (then_under k))
       (by_key (eqb key k))
     where
       by_key : (b : Bool) →
-          earlier (cond b (single_held latest first) (held_under old.slots k)).ticket (ticket_after latest (first + 1))
+          earlier (cond b (single_held latest first) (held_under old.slots k)).rank (rank_after latest (first + 1))
           ≡ true
       by_key true = less_before latest first (first + 1) (omega arith)
-      by_key false = opened_drawn_before latest (ticket_under old.slots k) (first + 1) (drawn_there k there) (omega arith)
+      by_key false = opened_drawn_before latest (rank_under old.slots k) (first + 1) (drawn_there k there) (omega arith)
 
   module _ (ends : last ≡ (held_under old.slots key).span.last) (splits : SplitsAt key all) where
     not_behind : lists_key key splits.after ≡ false
@@ -237,7 +237,7 @@ module _ (old one two new : Lanes Held) (first last key flying : ℕ) (latest : 
   opening_begins many ends room = begun ends (key_splits key all is.there) many room
 
 -- memory was taken for the new records first, which changes nothing else
-module _ (start old one two new : Lanes Held) (first last key flying : ℕ) (latest : Ticket)
+module _ (start old one two new : Lanes Held) (first last key flying : ℕ) (latest : Rank)
     (same : old ≡ record start { spare = old.spare }) (are : AreWoven start) (is : IsKeyOf start first key)
     (moves : KeyMoves old one two key (λ h. single_held latest first)) where
   woven_reserved : AreWoven old
@@ -252,7 +252,7 @@ module _ (start old one two new : Lanes Held) (first last key flying : ℕ) (lat
   held_reserved = sym (ap held_in same)
 
   pub opening_starts : RiseFromOne (held_in start) →
-      AllByRecursion (λ h. IsDrawn latest.front latest.turn h.ticket) (held_in start) →
+      AllByRecursion (λ h. IsDrawn latest.front latest.turn h.rank) (held_in start) →
       new ≡ with_lane First (pushed_back 0 key two.first) two → flying ≡ length (nth_list 1 one.first) →
       last ≡ (held_under start.slots key).span.last → last ≤ first + old.spare →
       IsOpening first last latest (held_in start) new flying first key
@@ -260,12 +260,12 @@ module _ (start old one two new : Lanes Held) (first last key flying : ℕ) (lat
       subst (λ held. IsOpening first last latest held new flying first key) (sym held_reserved)
       (opening_begins old one two new first last key flying latest woven_reserved
       (subst RiseFromOne held_reserved rising)
-      (subst (AllByRecursion (λ h. IsDrawn latest.front latest.turn h.ticket)) held_reserved drawn) key_reserved moves
+      (subst (AllByRecursion (λ h. IsDrawn latest.front latest.turn h.rank)) held_reserved drawn) key_reserved moves
       joins many (ends ∙ sym (ap (λ (l : Lanes Held). (held_under l.slots key).span.last) same)) room)
 
 -- ---- it goes on
 
-module _ (first last : ℕ) (latest : Ticket) (start : List Held) (now new : Lanes Held) (flying n at key : ℕ)
+module _ (first last : ℕ) (latest : Rank) (start : List Held) (now new : Lanes Held) (flying n at key : ℕ)
     (o : IsOpening first last latest start now flying n at)
     (adds : AddsAfter now new at key (single_held latest (n + 1))) where
   abbrev added : Held
@@ -296,17 +296,17 @@ module _ (first last : ℕ) (latest : Ticket) (start : List Held) (now new : Lan
       ∙ sym (singles_more latest first o.count))
 
   line_then : (k : ℕ) → lists_key k (nth_list 0 new.second) ≡ true →
-      earlier (ticket_under new.slots k) (ticket_after latest (n + 1 + 1)) ≡ true
+      earlier (rank_under new.slots k) (rank_after latest (n + 1 + 1)) ≡ true
   line_then k there = elim (eqb_tells key k) [
     | inl same ↦
-        subst (λ (h : Held). earlier h.ticket (ticket_after latest (n + 1 + 1)) ≡ true)
+        subst (λ (h : Held). earlier h.rank (rank_after latest (n + 1 + 1)) ≡ true)
         (sym (ap (held_under new.slots) (sym same.1)
         ∙ added_own now new at key added o.before o.after o.woven adds o.keys))
         (less_before latest (n + 1) (n + 1 + 1) (omega arith))
     | inr differs ↦
-        subst (λ (h : Held). earlier h.ticket (ticket_after latest (n + 1 + 1)) ≡ true)
+        subst (λ (h : Held). earlier h.rank (rank_after latest (n + 1 + 1)) ≡ true)
         (sym (added_same now new at key added o.before o.after o.woven adds o.keys k differs.0))
-        (before_next latest (ticket_under now.slots k) (n + 1) (o.line k (
+        (before_next latest (rank_under now.slots k) (n + 1) (o.line k (
         ap (λ b. cond b true (lists_key k (nth_list 0 now.second))) (sym differs.0)
         ∙ sym (ap (lists_key k)
         (added_keys now new at key added o.before o.after o.woven adds o.keys o.not_before o.not_after)
@@ -340,7 +340,7 @@ module _ (first last : ℕ) (latest : Ticket) (start : List Held) (now new : Lan
 
 -- ---- it ends
 
-module _ (first last : ℕ) (latest : Ticket) (start : List Held) (now : Lanes Held) (flying n at : ℕ)
+module _ (first last : ℕ) (latest : Rank) (start : List Held) (now : Lanes Held) (flying n at : ℕ)
     (o : IsOpening first last latest start now flying n at) (over : n ≡ last) where
   all_numbers : suc o.count ≡ suc last - first
   all_numbers = omega (arith, o.numbers, over)

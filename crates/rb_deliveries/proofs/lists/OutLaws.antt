@@ -10,8 +10,8 @@ use Rattle.link_lists.specs.Lanes.{Lanes, AreLanes}
 use Rattle.rb_deliveries.specs.declared.span.Span.{Span}
 use Rattle.rb_deliveries.specs.declared.span.Status.{Status}
 use Rattle.rb_deliveries.specs.declared.span.Status.TheVariants.{Ready, InFlight}
-use Rattle.rb_deliveries.specs.declared.ticket.Held.{Held}
-use Rattle.rb_deliveries.specs.Lanes.{spans_of}
+use Rattle.rb_deliveries.specs.declared.rank.Held.{Held}
+use Rattle.rb_deliveries.specs.Queues.{spans_of}
 use Rattle.rb_deliveries.specs.Spans.{how_many_out, is_due, is_out, is_out_as, out_as}
 use Rattle.rb_deliveries.specs.Taken.{AreWoven, lists_key, held_under, held_in, nth_list, number_of, status_passes}
 use Rattle.rb_deliveries.specs.Taken.{slot_passes}

@@ -6,13 +6,13 @@ use Rattle.link_lists.specs.declared.lane.Lane.TheVariants.{First, Second}
 use Rattle.link_lists.specs.Lanes.{Lanes, ChangesSlot, StandsIn, with_lane, pushed_back}
 use Rattle.rb_deliveries.specs.declared.span.Status.{Status}
 use Rattle.rb_deliveries.specs.declared.span.Status.TheVariants.{Ready, InFlight}
-use Rattle.rb_deliveries.specs.declared.ticket.Held.{Held}
+use Rattle.rb_deliveries.specs.declared.rank.Held.{Held}
 use Rattle.rb_deliveries.specs.Spans.{is_ready, is_out}
 use Rattle.rb_deliveries.specs.Subs.{IsNewest}
 use Rattle.rb_deliveries.specs.Taken.{AreListed, AreWoven, GoesLast, lists_key, held_under, held_in, held_or, nth_list}
 use Rattle.rb_deliveries.specs.Taken.{number_of, slot_passes}
 use Rattle.rb_deliveries.proofs.lists.KeyLaws.{SetsSlot, has_as, has_pushed, key_same, map_keys, not_this_key}
-use Rattle.rb_deliveries.proofs.lists.RiseLaws.{SlotAhead, IsLess, rise_kept, rise_joined, tickets_rise, rise_tickets}
+use Rattle.rb_deliveries.proofs.lists.RiseLaws.{SlotAhead, IsLess, rise_kept, rise_joined, ranks_rise, rise_ranks}
 use Rattle.rb_deliveries.proofs.lists.RiseLaws.{numbers_in_order, in_order_numbers}
 use Rattle.rb_deliveries.proofs.lists.ListedLaws.{out_less, still_all, still_listed}
 use Rattle.rb_deliveries.proofs.lists.StandLaws.{StandAs, standing, records_stand, held_stand, not_among, out_stand}
@@ -51,8 +51,8 @@ module _ (old new : List (Option Held)) (key : ℕ) (held : Held) (ready out all
         listed.out_keys;
     all_keys = still_all old new key (Some held) all (all ++ key ∷ []) sets (λ other. has_pushed key other all)
         listed.all_keys;
-    in_line = rise_tickets new ready (rise_kept SlotAhead old new key (Some held) sets ready
-        (not_this_key key ready not_ready) (tickets_rise old ready listed.in_line));
+    in_line = rise_ranks new ready (rise_kept SlotAhead old new key (Some held) sets ready
+        (not_this_key key ready not_ready) (ranks_rise old ready listed.in_line));
     by_number = in_order_numbers new (out ++ key ∷ []) (rise_joined IsLess old new key (Some held) sets out
         (not_this_key key out not_out) (numbers_in_order old out listed.by_number)
         (λ k there. out_less old ready out all listed k (number_of held.span.status) goes.newest there));

@@ -7,8 +7,8 @@ use Rattle.link_lists.specs.Lanes.{Lanes, AreLanes, first_key}
 use Rattle.rb_deliveries.specs.declared.span.Span.{Span}
 use Rattle.rb_deliveries.specs.declared.span.Status.{Status}
 use Rattle.rb_deliveries.specs.declared.span.Status.TheVariants.{Ready, InFlight}
-use Rattle.rb_deliveries.specs.declared.ticket.Held.{Held}
-use Rattle.rb_deliveries.specs.Lanes.{spans_of}
+use Rattle.rb_deliveries.specs.declared.rank.Held.{Held}
+use Rattle.rb_deliveries.specs.Queues.{spans_of}
 use Rattle.rb_deliveries.specs.Spans.{first_ready, is_ready, is_out}
 use Rattle.rb_deliveries.specs.Taken.{AreWoven, lists_key, held_under, held_in, held_or, nth_list, status_passes}
 use Rattle.rb_deliveries.specs.Taken.{slot_passes}

@@ -5,9 +5,9 @@ use Rattle.std.proofs.lemmas.Bool.Decides.{eqb_tells}
 use Rattle.link_lists.specs.Lanes.{Lanes}
 use Rattle.rb_deliveries.specs.declared.span.Status.{Status}
 use Rattle.rb_deliveries.specs.declared.span.Status.TheVariants.{Ready, InFlight}
-use Rattle.rb_deliveries.specs.declared.ticket.Held.{Held}
-use Rattle.rb_deliveries.specs.declared.ticket.Ticket.{Ticket}
-use Rattle.rb_deliveries.specs.Lanes.{HeldRise, RiseSome, restated, stated, without_held}
+use Rattle.rb_deliveries.specs.declared.rank.Held.{Held}
+use Rattle.rb_deliveries.specs.declared.rank.Rank.{Rank}
+use Rattle.rb_deliveries.specs.Queues.{HeldRise, RiseSome, restated, stated, without_held}
 use Rattle.rb_deliveries.specs.Taken.{GoesLast, IsKeyOf, NoSpanBegins, StandsLast, held_in, held_under, lists_key}
 use Rattle.rb_deliveries.specs.Taken.{nth_list, with_state}
 use Rattle.rb_deliveries.proofs.lists.KeyLaws.{has_first, has_later, keys_but, map_keys}
@@ -70,33 +70,33 @@ module _ (lanes : Lanes Held) (first key : ℕ) (is : IsKeyOf lanes first key) (
 
 -- ---- what is made of all
 
--- where a key's record has this status and ticket, its span is restated
-pub restated_keys : (old new : List (Option Held)) (first key : ℕ) (status : Status) (ticket : Ticket) (all : List ℕ) →
+-- where a key's record has this status and rank, its span is restated
+pub restated_keys : (old new : List (Option Held)) (first key : ℕ) (status : Status) (rank : Rank) (all : List ℕ) →
     ((k : ℕ) → lists_key k all ≡ true → begins_key old first k ≡ eqb key k) →
-    ((k : ℕ) → held_under new k ≡ cond (eqb key k) (with_state status ticket (held_under old key)) (held_under old k)) →
-    map (held_under new) all ≡ restated first status ticket (map (held_under old) all)
-restated_keys old new first key status ticket all one changed =
-    map_keys (held_under new) (λ k. stated first status ticket (held_under old k)) all
+    ((k : ℕ) → held_under new k ≡ cond (eqb key k) (with_state status rank (held_under old key)) (held_under old k)) →
+    map (held_under new) all ≡ restated first status rank (map (held_under old) all)
+restated_keys old new first key status rank all one changed =
+    map_keys (held_under new) (λ k. stated first status rank (held_under old k)) all
     (λ k there. changed k ∙ by_key k there)
     ∙ together all
   where
     by_key : (k : ℕ) → lists_key k all ≡ true →
-        cond (eqb key k) (with_state status ticket (held_under old key)) (held_under old k)
-        ≡ stated first status ticket (held_under old k)
+        cond (eqb key k) (with_state status rank (held_under old key)) (held_under old k)
+        ≡ stated first status rank (held_under old k)
     by_key k there = elim (eqb_tells key k) [
       | inl same ↦
-          ap (λ o. cond (eqb key k) (with_state status ticket (held_under old o)) (held_under old k)) same.1
-          ∙ ap (λ b. cond b (with_state status ticket (held_under old k)) (held_under old k)) (sym (one k there))
+          ap (λ o. cond (eqb key k) (with_state status rank (held_under old o)) (held_under old k)) same.1
+          ∙ ap (λ b. cond b (with_state status rank (held_under old k)) (held_under old k)) (sym (one k there))
       | inr differs ↦
-          ap (λ b. cond b (with_state status ticket (held_under old key)) (held_under old k)) differs.0
-          ∙ ap (λ b. cond b (with_state status ticket (held_under old k)) (held_under old k))
+          ap (λ b. cond b (with_state status rank (held_under old key)) (held_under old k)) differs.0
+          ∙ ap (λ b. cond b (with_state status rank (held_under old k)) (held_under old k))
           (sym (one k there ∙ differs.0))
     ]
 
-    together : (keys : List ℕ) → map (λ k. stated first status ticket (held_under old k)) keys
-        ≡ restated first status ticket (map (held_under old) keys)
+    together : (keys : List ℕ) → map (λ k. stated first status rank (held_under old k)) keys
+        ≡ restated first status rank (map (held_under old) keys)
     together [] = refl
-    together (k ∷ keys) = ap (λ hs. stated first status ticket (held_under old k) ∷ hs) (together keys)
+    together (k ∷ keys) = ap (λ hs. stated first status rank (held_under old k) ∷ hs) (together keys)
 
 -- where a key leaves, its span is gone
 pub without_keys : (old new : List (Option Held)) (first key : ℕ) (all : List ℕ) →
@@ -118,11 +118,11 @@ without_keys old new first key (k ∷ all) one same =
     by_key false is rest = λ i. same k is i ∷ rest i
 
 -- where none begins so, all stays
-pub restated_absent : (first : ℕ) (status : Status) (ticket : Ticket) (xs : List Held) → NoSpanBegins first xs →
-    restated first status ticket xs ≡ xs
-restated_absent first status ticket [] none = refl
-restated_absent first status ticket (x ∷ xs) none =
-    λ i. cond (none.0 i) (with_state status ticket x) x ∷ restated_absent first status ticket xs none.1 i
+pub restated_absent : (first : ℕ) (status : Status) (rank : Rank) (xs : List Held) → NoSpanBegins first xs →
+    restated first status rank xs ≡ xs
+restated_absent first status rank [] none = refl
+restated_absent first status rank (x ∷ xs) none =
+    λ i. cond (none.0 i) (with_state status rank x) x ∷ restated_absent first status rank xs none.1 i
 
 pub without_absent : (first : ℕ) (xs : List Held) → NoSpanBegins first xs → without_held first xs ≡ xs
 without_absent first [] none = refl
@@ -132,8 +132,8 @@ without_absent first (x ∷ xs) none =
 
 -- ---- what stands last
 
--- what goes last in flight stands last, whatever its ticket
-pub out_stands_last : (status : Status) (ticket : Ticket) (xs : List Held) → GoesLast status xs →
-    StandsLast status ticket xs
-out_stands_last (Ready taken) ticket xs last = absurd last
-out_stands_last (InFlight number moment) ticket xs last = last
+-- what goes last in flight stands last, whatever its rank
+pub out_stands_last : (status : Status) (rank : Rank) (xs : List Held) → GoesLast status xs →
+    StandsLast status rank xs
+out_stands_last (Ready taken) rank xs last = absurd last
+out_stands_last (InFlight number moment) rank xs last = last

@@ -1,10 +1,10 @@
--- Keys whose slots rise along a list: by their tickets, or by their deliveries' numbers.
+-- Keys whose slots rise along a list: by their ranks, or by their deliveries' numbers.
 use Rattle.std.proofs.Common.{◌≡◌, ℕ, ◌<◌, ◌||◌, Bool, true, false, not, cond, List, [], ◌∷◌, ◌++◌, map, get_or, eqb}
 use Rattle.std.proofs.Common.{Option, None, sym, ap, subst, ◌∙◌, ◌⊎◌, inl, inr}
 use Rattle.std.proofs.lemmas.Bool.Decides.{eqb_tells}
-use Rattle.rb_deliveries.specs.declared.ticket.Held.{Held}
-use Rattle.rb_deliveries.specs.Lanes.{earlier}
-use Rattle.rb_deliveries.specs.Taken.{lists_key, held_or, number_of, ticket_under, number_under, RisingTickets}
+use Rattle.rb_deliveries.specs.declared.rank.Held.{Held}
+use Rattle.rb_deliveries.specs.Queues.{earlier}
+use Rattle.rb_deliveries.specs.Taken.{lists_key, held_or, number_of, rank_under, number_under, RisingRanks}
 use Rattle.rb_deliveries.specs.Taken.{RisingNumbers}
 use Rattle.rb_deliveries.proofs.lists.KeyLaws.{SetsSlot, keys_but, has_behind, has_first, has_later, left_key}
 use Rattle.rb_deliveries.proofs.lists.KeyLaws.{pushed_key, key_same, all_keys, key_of_all}
@@ -16,7 +16,7 @@ KeysRise Before (k ∷ keys) = ((other : ℕ) → lists_key other keys ≡ true 
 
 -- the first slot is in line before the second; it has the lesser number
 abbrev pub SlotAhead : Option Held → Option Held → Type 0
-SlotAhead s t = earlier (held_or s).ticket (held_or t).ticket ≡ true
+SlotAhead s t = earlier (held_or s).rank (held_or t).rank ≡ true
 
 abbrev pub IsLess : Option Held → Option Held → Type 0
 IsLess s t = number_of (held_or s).span.status < number_of (held_or t).span.status
@@ -123,19 +123,19 @@ module _ (Before : Option Held → Option Held → Type 0) (old new : List (Opti
 -- ---- the two orders
 
 module _ (slots : List (Option Held)) where
-  pub tickets_rise : (keys : List ℕ) → RisingTickets (map (ticket_under slots) keys) → SlotsRise SlotAhead slots keys
-  tickets_rise [] rises = tt
-  tickets_rise (k ∷ keys) rises = (
-    λ other there. key_of_all (λ u. earlier (ticket_under slots k) u ≡ true)
-        (ticket_under slots) keys other rises.0 there,
-    tickets_rise keys rises.1,
+  pub ranks_rise : (keys : List ℕ) → RisingRanks (map (rank_under slots) keys) → SlotsRise SlotAhead slots keys
+  ranks_rise [] rises = tt
+  ranks_rise (k ∷ keys) rises = (
+    λ other there. key_of_all (λ u. earlier (rank_under slots k) u ≡ true)
+        (rank_under slots) keys other rises.0 there,
+    ranks_rise keys rises.1,
   )
 
-  pub rise_tickets : (keys : List ℕ) → SlotsRise SlotAhead slots keys → RisingTickets (map (ticket_under slots) keys)
-  rise_tickets [] rises = tt
-  rise_tickets (k ∷ keys) rises = (
-    all_keys (λ u. earlier (ticket_under slots k) u ≡ true) (ticket_under slots) keys rises.0,
-    rise_tickets keys rises.1,
+  pub rise_ranks : (keys : List ℕ) → SlotsRise SlotAhead slots keys → RisingRanks (map (rank_under slots) keys)
+  rise_ranks [] rises = tt
+  rise_ranks (k ∷ keys) rises = (
+    all_keys (λ u. earlier (rank_under slots k) u ≡ true) (rank_under slots) keys rises.0,
+    rise_ranks keys rises.1,
   )
 
   pub numbers_in_order : (keys : List ℕ) → RisingNumbers (map (number_under slots) keys) → SlotsRise IsLess slots keys

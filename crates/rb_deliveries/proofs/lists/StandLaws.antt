@@ -6,7 +6,7 @@ use Rattle.std.proofs.lemmas.List.Folds.{list_any-append}
 use Rattle.link_lists.specs.declared.lane.Lane.TheVariants.{First, Second}
 use Rattle.link_lists.specs.Lanes.{Lanes, ChangesSlot, StandsIn, emptied, with_lane, lane_keys, pushed_back}
 use Rattle.link_lists.specs.Lanes.{without_key}
-use Rattle.rb_deliveries.specs.declared.ticket.Held.{Held}
+use Rattle.rb_deliveries.specs.declared.rank.Held.{Held}
 use Rattle.rb_deliveries.specs.Taken.{AreKept, AreListed, AreWoven, lists_key, held_under, held_in, nth_list}
 use Rattle.rb_deliveries.proofs.lists.KeyLaws.{SetsSlot, keys_but, has_not_but}
 

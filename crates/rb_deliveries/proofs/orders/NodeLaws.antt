@@ -3,7 +3,7 @@ use Rattle.std.proofs.Common.{◌≡◌, ℕ, zero, suc, ◌+◌, ◌<◌, ◌�
 use Rattle.std.proofs.Common.{Option, Some, None, refl, sym, ap, ◌∙◌, arith}
 use Rattle.std.proofs.lemmas.List.{drop-drop}
 use Rattle.std.proofs.Math.Seq.{drop-cons, take-add}
-use Rattle.rb_deliveries.specs.declared.ticket.Ticket.{Ticket}
+use Rattle.rb_deliveries.specs.declared.rank.Rank.{Rank}
 use Rattle.rb_deliveries.specs.declared.tournament.Winner.{Winner}
 use Rattle.rb_deliveries.specs.Tournament.{winner_of_two, at_place, winner_from, leaves_from, places_at, node, NodesWin}
 
@@ -33,13 +33,13 @@ pub winner_none : (n : ℕ) → winner_of (replicate n None) ≡ None
 winner_none zero = refl
 winner_none (suc n) = winner_none n
 
-pub winner_leaves : (n : ℕ) (tickets : List (Option Ticket)) → winner_of (leaves_from n tickets) ≡ winner_from n tickets
+pub winner_leaves : (n : ℕ) (ranks : List (Option Rank)) → winner_of (leaves_from n ranks) ≡ winner_from n ranks
 winner_leaves n [] = refl
-winner_leaves n (ticket ∷ rest) = ap (winner_of_two (at_place n ticket)) (winner_leaves (suc n) rest)
+winner_leaves n (rank ∷ rest) = ap (winner_of_two (at_place n rank)) (winner_leaves (suc n) rest)
 
-pub length_leaves : (n : ℕ) (tickets : List (Option Ticket)) → length (leaves_from n tickets) ≡ length tickets
+pub length_leaves : (n : ℕ) (ranks : List (Option Rank)) → length (leaves_from n ranks) ≡ length ranks
 length_leaves n [] = refl
-length_leaves n (ticket ∷ rest) = ap suc (length_leaves (suc n) rest)
+length_leaves n (rank ∷ rest) = ap suc (length_leaves (suc n) rest)
 
 -- ---- where the places below a node begin
 

@@ -1,14 +1,14 @@
--- The ready order after a span is opened: its numbers are at the end, by rising number, since their tickets come after
+-- The ready order after a span is opened: its numbers are at the end, by rising number, since their ranks come after
 -- all others.
 use Rattle.std.proofs.Common.{◌≡◌, ℕ, zero, suc, ◌+◌, ◌≤◌, true, false, List, [], ◌∷◌, ◌++◌, map, Some, filter_map}
 use Rattle.std.proofs.Common.{slice_get, slice_set, append_assoc, append-nil, refl, sym, ap, ◌∙◌, subst, arith}
 use Rattle.std.specs.List.{AllByRecursion}
 use Rattle.std.proofs.lemmas.List.{map-append}
-use Rattle.rb_deliveries.specs.declared.ticket.Ticket.{Ticket}
-use Rattle.rb_deliveries.specs.declared.ticket.Held.{Held}
+use Rattle.rb_deliveries.specs.declared.rank.Rank.{Rank}
+use Rattle.rb_deliveries.specs.declared.rank.Held.{Held}
 use Rattle.rb_deliveries.specs.Spans.{singles}
-use Rattle.rb_deliveries.specs.Lanes.{earlier}
-use Rattle.rb_deliveries.specs.Opening.{singles_held, ticket_after}
+use Rattle.rb_deliveries.specs.Queues.{earlier}
+use Rattle.rb_deliveries.specs.Opening.{singles_held, rank_after}
 use Rattle.rb_deliveries.specs.Orders.{placed_in, in_line, ready_at, all_at, order}
 use Rattle.rb_deliveries.proofs.orders.Line.{Before, LineBehind, Rises, all_first, all_line, all_second, all_then}
 use Rattle.rb_deliveries.proofs.orders.Line.{earlier_asymmetric, placed_behind, placed_first}
@@ -17,8 +17,8 @@ use Rattle.rb_deliveries.proofs.orders.ExpireLines.{parted}
 
 -- ---- lines
 
--- things whose tickets rise, none of them earlier than t, stand behind the line of others that are earlier
-line_gains : (t : Ticket) (xs es ys : OrderEntries) → Before t xs → Before t ys → LineBehind t es → Rises es
+-- things whose ranks rise, none of them earlier than t, stand behind the line of others that are earlier
+line_gains : (t : Rank) (xs es ys : OrderEntries) → Before t xs → Before t ys → LineBehind t es → Rises es
     → in_line (xs ++ (es ++ ys)) ≡ in_line (xs ++ ys) ++ es
 line_gains t [] [] ys early last late rises = sym (append-nil (in_line ys))
 line_gains t [] (e ∷ es) ys early last late rises =
@@ -34,18 +34,18 @@ line_gains t (f ∷ xs) es ys early last late rises =
     (all_then (λ e. earlier e.0 t ≡ false) (λ e. earlier e.0 f.0 ≡ false) es
     (λ e behind. earlier_asymmetric f.0 e.0 (parted f.0 e.0 t early.0 behind)) late)
 
--- a lane with more entries, whose tickets rise after those of all others
-pub order_gains : (at : At) (t : Ticket) (lanes : List (List Held)) (s : ℕ) (lane lane' : List Held)
-    (a es b : OrderEntries) → slice_get lanes s ≡ Some lane → filter_map (at s) lane ≡ a ++ b
-    → filter_map (at s) lane' ≡ a ++ (es ++ b) → LineBehind t es → Rises es
-    → AllByRecursion (λ e. earlier e.0 t ≡ true) (all_at at 0 lanes) → order at (slice_set lanes s lane')
-    ≡ order at lanes ++ map (λ e. e.1) es
-order_gains at t lanes s lane lane' a es b found own more late rises before =
-    let r = around at lanes s lane found in
-    let old : all_at at 0 lanes ≡ (r.ahead ++ a) ++ (b ++ r.behind) = r.whole ∙ ap (λ z. r.ahead ++ (z ++ r.behind)) own
+-- a queue with more entries, whose ranks rise after those of all others
+pub order_gains : (at : At) (t : Rank) (queues : List (List Held)) (s : ℕ) (queue queue' : List Held)
+    (a es b : OrderEntries) → slice_get queues s ≡ Some queue → filter_map (at s) queue ≡ a ++ b
+    → filter_map (at s) queue' ≡ a ++ (es ++ b) → LineBehind t es → Rises es
+    → AllByRecursion (λ e. earlier e.0 t ≡ true) (all_at at 0 queues) → order at (slice_set queues s queue')
+    ≡ order at queues ++ map (λ e. e.1) es
+order_gains at t queues s queue queue' a es b found own more late rises before =
+    let r = around at queues s queue found in
+    let old : all_at at 0 queues ≡ (r.ahead ++ a) ++ (b ++ r.behind) = r.whole ∙ ap (λ z. r.ahead ++ (z ++ r.behind)) own
     ∙ simp append_assoc refl in
-    let now : all_at at 0 (slice_set lanes s lane') ≡ (r.ahead ++ a) ++ (es ++ (b ++ r.behind)) =
-    r.changed lane' ∙ ap (λ z. r.ahead ++ (z ++ r.behind)) more ∙ simp append_assoc refl in
+    let now : all_at at 0 (slice_set queues s queue') ≡ (r.ahead ++ a) ++ (es ++ (b ++ r.behind)) =
+    r.changed queue' ∙ ap (λ z. r.ahead ++ (z ++ r.behind)) more ∙ simp append_assoc refl in
     let parts : Before t ((r.ahead ++ a) ++ (b ++ r.behind)) = subst (Before t) old before in
     ap (λ z. map (λ e. e.1) (in_line z)) now
     ∙ ap (map (λ e. e.1)) (line_gains t (r.ahead ++ a) es (b ++ r.behind)
@@ -56,25 +56,25 @@ order_gains at t lanes s lane lane' a es b found own more late rises before =
 
 -- ---- the entries of opened numbers
 
-abbrev pub opened_entries : ℕ → Ticket → ℕ → ℕ → OrderEntries
+abbrev pub opened_entries : ℕ → Rank → ℕ → ℕ → OrderEntries
 opened_entries s latest n count = filter_map (ready_at s) (singles_held latest n count)
 
--- a greater number's ticket is not earlier
-greater_later : (latest : Ticket) (n k : ℕ) → n ≤ k → earlier (ticket_after latest k) (ticket_after latest n) ≡ false
+-- a greater number's rank is not earlier
+greater_later : (latest : Rank) (n k : ℕ) → n ≤ k → earlier (rank_after latest k) (rank_after latest n) ≡ false
 greater_later latest n k le = grind arith
 
--- they are not earlier than a ticket that those of the numbers from n on are not earlier than
-entries_behind : (s : ℕ) (latest t : Ticket) (n count : ℕ)
-    → ((k : ℕ) → n ≤ k → earlier (ticket_after latest k) t ≡ false) → LineBehind t (opened_entries s latest n count)
+-- they are not earlier than a rank that those of the numbers from n on are not earlier than
+entries_behind : (s : ℕ) (latest t : Rank) (n count : ℕ)
+    → ((k : ℕ) → n ≤ k → earlier (rank_after latest k) t ≡ false) → LineBehind t (opened_entries s latest n count)
 entries_behind s latest t n zero later = tt
 entries_behind s latest t n (suc count) later =
     (later n (omega arith), entries_behind s latest t (suc n) count (λ k le. later k (omega (arith, le))))
 
 -- each comes after the one before it
-pub entries_rise : (s : ℕ) (latest : Ticket) (n count : ℕ) → Rises (opened_entries s latest n count)
+pub entries_rise : (s : ℕ) (latest : Rank) (n count : ℕ) → Rises (opened_entries s latest n count)
 entries_rise s latest n zero = tt
 entries_rise s latest n (suc count) = (
-  entries_behind s latest (ticket_after latest n) (suc n) count (λ k le. greater_later latest n k (omega (arith, le))),
+  entries_behind s latest (rank_after latest n) (suc n) count (λ k le. greater_later latest n k (omega (arith, le))),
   entries_rise s latest (suc n) count,
 )
 
@@ -91,7 +91,7 @@ entries_late s front turn n count some =
     (λ k le. turn_later front turn k (omega (arith, le, some)))
 
 -- they are under the numbers
-pub entries_named : (s : ℕ) (latest : Ticket) (n count : ℕ)
+pub entries_named : (s : ℕ) (latest : Rank) (n count : ℕ)
     → map (λ e. e.1) (opened_entries s latest n count) ≡ map (λ p. (s, p.first)) (singles n count)
 entries_named s latest n zero = refl
 entries_named s latest n (suc count) = ap (λ (l : List (ℕ × ℕ)). (s, n) ∷ l) (entries_named s latest (suc n) count)

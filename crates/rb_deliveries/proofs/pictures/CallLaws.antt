@@ -6,14 +6,14 @@ use Rattle.std.specs.List.{AllByRecursion}
 use Rattle.std.proofs.lemmas.List.{length-append, length-map}
 use Rattle.rb_deliveries.specs.declared.span.Span.{Span}
 use Rattle.rb_deliveries.specs.declared.sub.Sub.{Sub}
-use Rattle.rb_deliveries.specs.declared.ticket.Ticket.{Ticket}
+use Rattle.rb_deliveries.specs.declared.rank.Rank.{Rank}
 use Rattle.rb_deliveries.specs.Changes.{IsOutTo, MayContinue, MayDeliver, acked_to, all_expired, delivered_to}
 use Rattle.rb_deliveries.specs.Changes.{first_of_all, grown_picture, nacked_to, opened_to, reconnected_spans}
 use Rattle.rb_deliveries.specs.Changes.{subscribed_spans, unsubscribed_from}
 use Rattle.rb_deliveries.specs.Expiry.{by_number, expired_sub, turns_from}
 use Rattle.rb_deliveries.specs.KeptSubs.{KeptSubs}
-use Rattle.rb_deliveries.specs.Lanes.{AreRising, HasNumbers, HeldRise, Lane, lane_floor, most_numbers, settled_lane}
-use Rattle.rb_deliveries.specs.Lanes.{spans_of}
+use Rattle.rb_deliveries.specs.Queues.{AreRising, HasNumbers, HeldRise, Queue, queue_floor, most_numbers, settled_queue}
+use Rattle.rb_deliveries.specs.Queues.{spans_of}
 use Rattle.rb_deliveries.specs.Opening.{opened_sub}
 use Rattle.rb_deliveries.specs.Picture.{DeliveriesSeen, DeliveryPicture, Subscription}
 use Rattle.rb_deliveries.specs.Pictured.{DeliveriesAgree, pictured, pictured_sub}
@@ -21,7 +21,7 @@ use Rattle.rb_deliveries.specs.Spans.{cut_spans, first_ready, floor_of, is_fresh
 use Rattle.rb_deliveries.specs.Subs.{Belongs, IsDeliverable, closed_sub, delivered_sub, new_sub}
 use Rattle.rb_deliveries.specs.Subs.{reconnected_sub, returned_sub, settled_sub}
 use Rattle.rb_deliveries.proofs.spans.FoundLaws.{may_go_first, out_as_held}
-use Rattle.rb_deliveries.proofs.spans.LaneChanges.{held_span, may_go_span}
+use Rattle.rb_deliveries.proofs.spans.QueueChanges.{held_span, may_go_span}
 use Rattle.rb_deliveries.proofs.spans.CutLaws.{CutIsFresh, cut_fresh}
 use Rattle.rb_deliveries.proofs.subs.ExpiredLaws.{belongs_turned_back}
 use Rattle.rb_deliveries.proofs.subs.KnownLaws.{all_get, few_map, few_set}
@@ -47,14 +47,14 @@ on_any_error (Ok done) p = tt
 on_any_error (Err why) p = p
 
 abbrev pub AllRise : List Sub → Type 0
-AllRise subs = AllByRecursion (λ sub. AreRising sub.lane) subs
+AllRise subs = AllByRecursion (λ sub. AreRising sub.queue) subs
 
 -- a span that is in flight to a stored subscription, which is open
 pub record IsOutOf (batch front turn number : ℕ) (subs : List Sub) (s : ℕ) (span : Span) : Type 0 where
   pub sub : Sub
   pub opened : IsOpen batch front turn number subs s sub
   pub delivery : ℕ
-  pub out : out_as delivery (spans_of sub.lane.held) ≡ Some span
+  pub out : out_as delivery (spans_of sub.queue.held) ≡ Some span
 
 -- the view of what is stored
 abbrev view_with : ℕ → DeliveryPicture → DeliveriesSeen
@@ -104,18 +104,18 @@ module _ {batch front turn number : ℕ} {subs : List Sub} (k : DeliveriesAgree 
   abbrev old : DeliveryPicture
   old = pictured batch window front number subs
 
-  -- the tickets of the last turn drawn, and of the next
-  abbrev pub latest_ticket : Ticket
-  latest_ticket = record { front = front; turn = turn }
+  -- the ranks of the last turn drawn, and of the next
+  abbrev pub latest_rank : Rank
+  latest_rank = record { front = front; turn = turn }
 
-  abbrev pub next_ticket : Ticket
-  next_ticket = record { front = front; turn = suc turn }
+  abbrev pub next_rank : Rank
+  next_rank = record { front = front; turn = suc turn }
 
   -- what is stored with a new subscription, and after deliveries expired
-  abbrev pub with_new : ℕ → ℕ → Ticket → KeptSubs
-  with_new start link ticket = record { window = window; subs = subs ++ new_sub start link ticket ∷ [] }
+  abbrev pub with_new : ℕ → ℕ → Rank → KeptSubs
+  with_new start link rank = record { window = window; subs = subs ++ new_sub start link rank ∷ [] }
 
-  abbrev pub with_expired : ℕ → ℕ → Ticket → KeptSubs
+  abbrev pub with_expired : ℕ → ℕ → Rank → KeptSubs
   with_expired timeout clock latest = record {
     window = window;
     subs = map (expired_sub timeout clock (by_number (turns_from latest.front latest.turn))) subs;
@@ -150,10 +150,10 @@ module _ {batch front turn number : ℕ} {subs : List Sub} (k : DeliveriesAgree 
 
   -- ---- subscriptions are made and go on
 
-  pub subscribed_kept : (start link : ℕ) (ticket : Ticket) (new : KeptSubs) → start ≤ front
-      → length (map (pictured_sub batch front) subs) < 1024 → ticket ≡ next_ticket → new ≡ with_new start link ticket
+  pub subscribed_kept : (start link : ℕ) (rank : Rank) (new : KeptSubs) → start ≤ front
+      → length (map (pictured_sub batch front) subs) < 1024 → rank ≡ next_rank → new ≡ with_new start link rank
       → DeliveriesAgree batch front (turn + 1) number new.subs
-  subscribed_kept start link ticket new le few drawn is =
+  subscribed_kept start link rank new le few drawn is =
       subst (λ n. DeliveriesAgree batch front n number new.subs) (sym (suc_is_more turn))
       (agree_by batch front (suc turn) number window _ new (is ∙ ap (with_new start link) drawn) (record {
         batch_is = k.batch_is;
@@ -163,15 +163,15 @@ module _ {batch front turn number : ℕ} {subs : List Sub} (k : DeliveriesAgree 
           arith,
           few,
           length-map subs (pictured_sub batch front),
-          length-append subs (new_sub start link next_ticket ∷ []),
+          length-append subs (new_sub start link next_rank ∷ []),
         );
       }))
 
-  pub subscribed_seen : (start link : ℕ) (ticket : Ticket) (new : KeptSubs)
-      → ticket ≡ next_ticket → new ≡ with_new start link ticket
+  pub subscribed_seen : (start link : ℕ) (rank : Rank) (new : KeptSubs)
+      → rank ≡ next_rank → new ≡ with_new start link rank
       → view_of batch new.window front (turn + 1) number new.subs
       ≡ record { picture = subscribed_spans old start (cut_spans batch (suc start) front) link; turns = suc turn }
-  subscribed_seen start link ticket new drawn is =
+  subscribed_seen start link rank new drawn is =
       ap (λ n. view_of batch new.window front n number new.subs) (suc_is_more turn)
       ∙ view_by batch front (suc turn) number window _ new (is ∙ ap (with_new start link) drawn) _
       (subscribed_pictured batch window front turn link number start subs k.batch_is.0 k.belong)
@@ -191,16 +191,16 @@ module _ {batch front turn number : ℕ} {subs : List Sub} (k : DeliveriesAgree 
   pub continues_placed : (s cursor : ℕ) → MayContinue old s cursor → cursor ≤ most_numbers
   continues_placed s cursor t = omega (arith, (continues s cursor t).3, k.front_is)
 
-  pub reconnects : (s cursor link : ℕ) (ticket : Ticket) (new : KeptSubs) → MayContinue old s cursor
-      → ticket ≡ next_ticket → LeavesChanged window subs s (λ sub. reconnected_sub sub cursor link ticket) new
+  pub reconnects : (s cursor link : ℕ) (rank : Rank) (new : KeptSubs) → MayContinue old s cursor
+      → rank ≡ next_rank → LeavesChanged window subs s (λ sub. reconnected_sub sub cursor link rank) new
       → GivesNext batch front subs turn number s new
       (λ q. reconnected_spans old s q cursor (cut_spans batch (suc cursor) front) link)
-  reconnects s cursor link ticket new t drawn left =
+  reconnects s cursor link rank new t drawn left =
       let at = continues s cursor t in
       gives_next s new (λ q. reconnected_spans old s q cursor (cut_spans batch (suc cursor) front) link)
       (gives (suc turn) number s new (λ q. reconnected_spans old s q cursor (cut_spans batch (suc cursor) front) link)
-      (λ sub. reconnected_sub sub cursor link next_ticket) at.0 at.1
-      (subst (λ (t : Ticket). LeavesChanged window subs s (λ sub. reconnected_sub sub cursor link t) new) drawn left)
+      (λ sub. reconnected_sub sub cursor link next_rank) at.0 at.1
+      (subst (λ (t : Rank). LeavesChanged window subs s (λ sub. reconnected_sub sub cursor link t) new) drawn left)
       (belongs_reconnected front turn link number s cursor subs at.0 at.3 k.belong at.1)
       (reconnected_pictured batch window front turn link number s cursor subs at.0 k.batch_is.0 k.belong at.1 at.2))
 
@@ -226,7 +226,7 @@ module _ {batch front turn number : ℕ} {subs : List Sub} (k : DeliveriesAgree 
       belong = k.belong;
       found = found;
       is_open = running;
-      rises = all_get (λ (sub : Sub). AreRising sub.lane) subs s sub rise found;
+      rises = all_get (λ (sub : Sub). AreRising sub.queue) subs s sub rise found;
     }
 
     out_of : (s : ℕ) (span : Span) → IsOutTo old s span → IsOutOf batch front turn number subs s span
@@ -252,7 +252,7 @@ module _ {batch front turn number : ℕ} {subs : List Sub} (k : DeliveriesAgree 
         record {
           sub = at.sub;
           opened = is_one s at.sub at.found ready.0;
-          may = may_go_first batch front at.sub.lane span ready.1;
+          may = may_go_first batch front at.sub.queue span ready.1;
         }
     goes_by s span q found (inr first) =
         first_goes_of batch window front turn number subs k.batch_is.0 k.belong rise s span first
@@ -266,11 +266,11 @@ module _ {batch front turn number : ℕ} {subs : List Sub} (k : DeliveriesAgree 
     goes_numbered s span t =
         let g = goes_to s span t in
         let next = (all_get (Belongs front turn number) subs s g.sub k.belong g.opened.found).is_next in
-        let at = may_go_span batch front 1 g.sub.lane span k.batch_is.0 next g.opened.rises g.may in
+        let at = may_go_span batch front 1 g.sub.queue span k.batch_is.0 next g.opened.rises g.may in
         (at.0, omega (arith, at.1, k.front_is))
 
     -- and it was never delivered, where it begins with the first number of those
-    fresh_by : (kept : Lane) (span : Span) → HeldRise 1 kept.held kept.next → IsDeliverable batch front kept span
+    fresh_by : (kept : Queue) (span : Span) → HeldRise 1 kept.held kept.next → IsDeliverable batch front kept span
         → span.first ≡ kept.next → is_fresh span.status ≡ true
     fresh_by kept span rises (inl held) e = absurd (omega (arith, held_span 1 kept span rises held.0, e))
     fresh_by kept span rises (inr found) e =
@@ -278,10 +278,10 @@ module _ {batch front turn number : ℕ} {subs : List Sub} (k : DeliveriesAgree 
         (all_get CutIsFresh (cut_spans batch kept.next front) 0 span (cut_fresh batch kept.next front) found)
 
     pub only_fresh : (s : ℕ) (span : Span) → MayDeliver old s span
-        → ((sub : Sub) → slice_get subs s ≡ Some sub → span.first ≡ sub.lane.next) → is_fresh span.status ≡ true
+        → ((sub : Sub) → slice_get subs s ≡ Some sub → span.first ≡ sub.queue.next) → is_fresh span.status ≡ true
     only_fresh s span t next =
         let g = goes_to s span t in
-        fresh_by g.sub.lane span g.opened.rises g.may (next g.sub g.opened.found)
+        fresh_by g.sub.queue span g.opened.rises g.may (next g.sub g.opened.found)
 
     pub delivers : (s : ℕ) (span : Span) (tick : ℕ) (new : KeptSubs) → MayDeliver old s span
         → LeavesChanged window subs s (λ sub. delivered_sub sub span number tick) new
@@ -307,7 +307,7 @@ module _ {batch front turn number : ℕ} {subs : List Sub} (k : DeliveriesAgree 
         (settled_as batch window front turn number subs s g.sub g.opened g.delivery span g.out)
 
     pub acked_floor : (s : ℕ) (span : Span) (floor : ℕ) → IsOutTo old s span
-        → ((sub : Sub) → slice_get subs s ≡ Some sub → floor ≡ lane_floor (settled_lane sub.lane span.first))
+        → ((sub : Sub) → slice_get subs s ≡ Some sub → floor ≡ queue_floor (settled_queue sub.queue span.first))
         → (q : Subscription) → slice_get (map (pictured_sub batch front) subs) s ≡ Some q
         → floor ≡ floor_of (without_first span.first q.spans) front
     acked_floor s span floor t is =
@@ -316,32 +316,32 @@ module _ {batch front turn number : ℕ} {subs : List Sub} (k : DeliveriesAgree 
         g.opened.found
         (is g.sub g.opened.found
         ∙ settled_floor batch window front turn number subs s g.sub g.opened span
-        (out_as_held g.delivery g.sub.lane span g.out).0)
+        (out_as_held g.delivery g.sub.queue span g.out).0)
 
     -- ---- a span goes back
 
-    pub nacks : (s : ℕ) (span : Span) (ticket : Ticket) (new : KeptSubs) → IsOutTo old s span
-        → ticket ≡ next_ticket → LeavesChanged window subs s (λ sub. returned_sub sub span.first ticket) new
+    pub nacks : (s : ℕ) (span : Span) (rank : Rank) (new : KeptSubs) → IsOutTo old s span
+        → rank ≡ next_rank → LeavesChanged window subs s (λ sub. returned_sub sub span.first rank) new
         → GivesNext batch front subs turn number s new (λ q. nacked_to old s q span)
-    nacks s span ticket new t drawn left =
+    nacks s span rank new t drawn left =
         let g = out_of s span t in
         gives_next s new (λ q. nacked_to old s q span)
         (gives (suc turn) number s new (λ q. nacked_to old s q span)
-        (λ sub. returned_sub sub span.first next_ticket) g.sub g.opened.found
-        (subst (λ (t : Ticket). LeavesChanged window subs s (λ sub. returned_sub sub span.first t) new) drawn left)
+        (λ sub. returned_sub sub span.first next_rank) g.sub g.opened.found
+        (subst (λ (t : Rank). LeavesChanged window subs s (λ sub. returned_sub sub span.first t) new) drawn left)
         (belongs_returned batch window front turn number subs s g.sub g.opened span.first)
         (returned_as batch window front turn number subs s g.sub g.opened g.delivery span g.out))
 
     -- ---- a span is opened
 
-    pub opens : (s : ℕ) (span : Span) (latest : Ticket) (new : KeptSubs) → IsOutTo old s span
-        → latest ≡ latest_ticket → LeavesChanged window subs s (λ sub. opened_sub sub span.first latest) new
+    pub opens : (s : ℕ) (span : Span) (latest : Rank) (new : KeptSubs) → IsOutTo old s span
+        → latest ≡ latest_rank → LeavesChanged window subs s (λ sub. opened_sub sub span.first latest) new
         → Gives batch front subs (turn + front) number s new (λ q. opened_to old s q span)
     opens s span latest new t drawn left =
         let g = out_of s span t in
         gives (turn + front) number s new (λ q. opened_to old s q span)
-        (λ sub. opened_sub sub span.first latest_ticket) g.sub g.opened.found
-        (subst (λ (t : Ticket). LeavesChanged window subs s (λ sub. opened_sub sub span.first t) new) drawn left)
+        (λ sub. opened_sub sub span.first latest_rank) g.sub g.opened.found
+        (subst (λ (t : Rank). LeavesChanged window subs s (λ sub. opened_sub sub span.first t) new) drawn left)
         (belongs_opened batch window front turn number subs s g.sub g.opened span.first)
         (opened_as batch window front turn number subs s g.sub g.opened g.delivery span g.out)
 
@@ -362,13 +362,13 @@ module _ {batch front turn number : ℕ} {subs : List Sub} (k : DeliveriesAgree 
         let at = slice_get_there subs s there in
         gives turn number s new (λ q. unsubscribed_from old s q) closed_sub at.0 at.1 left
         (belongs_unsubscribed front turn number s subs at.0 k.belong at.1
-        (all_get (λ (sub : Sub). AreRising sub.lane) subs s at.0 rise at.1))
+        (all_get (λ (sub : Sub). AreRising sub.queue) subs s at.0 rise at.1))
         (unsubscribed_pictured batch window front number s subs at.0 at.1)
 
     -- ---- deliveries expire
 
-    pub expired_kept : (timeout clock : ℕ) (latest : Ticket) (new : KeptSubs)
-        → latest ≡ latest_ticket → new ≡ with_expired timeout clock latest
+    pub expired_kept : (timeout clock : ℕ) (latest : Rank) (new : KeptSubs)
+        → latest ≡ latest_rank → new ≡ with_expired timeout clock latest
         → DeliveriesAgree batch front (turn + number) number new.subs
     expired_kept timeout clock latest new drawn is =
         agree_by batch front (turn + number) number window _ new (is ∙ ap (with_expired timeout clock) drawn) (record {
@@ -378,8 +378,8 @@ module _ {batch front turn number : ℕ} {subs : List Sub} (k : DeliveriesAgree 
           few = few_map subs _ k.few;
         })
 
-    pub expired_seen : (timeout clock : ℕ) (latest : Ticket) (new : KeptSubs)
-        → latest ≡ latest_ticket → new ≡ with_expired timeout clock latest
+    pub expired_seen : (timeout clock : ℕ) (latest : Rank) (new : KeptSubs)
+        → latest ≡ latest_rank → new ≡ with_expired timeout clock latest
         → pictured batch new.window front number new.subs ≡ all_expired old timeout clock
     expired_seen timeout clock latest new drawn is =
         ap (λ (n : KeptSubs). pictured batch n.window front number n.subs) (is ∙ ap (with_expired timeout clock) drawn)

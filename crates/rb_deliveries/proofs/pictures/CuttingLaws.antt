@@ -6,46 +6,46 @@ use Rattle.std.specs.List.{AllByRecursion}
 use Rattle.std.proofs.lemmas.Bool.{le-leb}
 use Rattle.std.proofs.lemmas.List.{map-append, map-set, length-map}
 use Rattle.std.proofs.lemmas.Option.{slice_get-map}
-use Rattle.rb_deliveries.specs.declared.ticket.Ticket.{Ticket}
-use Rattle.rb_deliveries.specs.declared.ticket.Held.{Held}
+use Rattle.rb_deliveries.specs.declared.rank.Rank.{Rank}
+use Rattle.rb_deliveries.specs.declared.rank.Held.{Held}
 use Rattle.rb_deliveries.specs.declared.span.Span.{Span}
 use Rattle.rb_deliveries.specs.declared.sub.Sub.{Sub}
 use Rattle.rb_deliveries.specs.Spans.{fresh, cut_spans}
-use Rattle.rb_deliveries.specs.Lanes.{AreRising, HeldRise, floor_before, lane_floor, cut_lane, ticketed}
-use Rattle.rb_deliveries.specs.Lanes.{spans_of, lane_held}
+use Rattle.rb_deliveries.specs.Queues.{AreRising, HeldRise, floor_before, queue_floor, cut_queue, ranked}
+use Rattle.rb_deliveries.specs.Queues.{spans_of, queue_held}
 use Rattle.rb_deliveries.specs.Orders.{order, ready_at, out_at}
 use Rattle.rb_deliveries.specs.Picture.{DeliveryPicture, Subscription}
 use Rattle.rb_deliveries.specs.Changes.{named, subscribed_spans, reconnected_spans, unsubscribed_from}
 use Rattle.rb_deliveries.specs.Pictured.{pictured, pictured_sub}
 use Rattle.rb_deliveries.specs.Subs.{sub_held, Belongs, new_sub, reconnected_sub, closed_sub}
 use Rattle.rb_deliveries.proofs.spans.CutLaws.{cut_ends, cut_induction}
-use Rattle.rb_deliveries.proofs.spans.LaneLaws.{lane_spans_is, joins_reach}
+use Rattle.rb_deliveries.proofs.spans.QueueLaws.{queue_spans_is, joins_reach}
 use Rattle.rb_deliveries.proofs.orders.Line.{all_both, all_then}
 use Rattle.rb_deliveries.proofs.subs.KnownLaws.{all_set, all_get, drawn_before, known_belongs_later}
 use Rattle.rb_deliveries.proofs.pictures.EarlierLaws.{out_earlier, ready_earlier}
 use Rattle.rb_deliveries.proofs.orders.OrderLaws.{tagged_ready, tagged_out, order_cleared, order_replaced, order_pushed}
 use Rattle.rb_deliveries.proofs.orders.OrderLaws.{cut_out}
 
--- the spans of a cutting are ready, with its ticket, up to the ticket's front
-pub cut_ready : (batch front a s : ℕ) (t : Ticket) → 1 ≤ batch → front ≤ t.front
-    → filter_map (ready_at s) (ticketed t (cut_spans batch a front))
+-- the spans of a cutting are ready, with its rank, up to the rank's front
+pub cut_ready : (batch front a s : ℕ) (t : Rank) → 1 ≤ batch → front ≤ t.front
+    → filter_map (ready_at s) (ranked t (cut_spans batch a front))
     ≡ map (λ x. (t, x)) (named s (cut_spans batch a front))
 cut_ready batch front a s t one le =
     cut_induction batch front
-    (λ a spans. filter_map (ready_at s) (ticketed t spans) ≡ map (λ x. (t, x)) (named s spans)) one (λ a h. refl)
+    (λ a spans. filter_map (ready_at s) (ranked t spans) ≡ map (λ x. (t, x)) (named s spans)) one (λ a h. refl)
     some (suc front - a) a (omega arith)
   where
-    by : (x end : ℕ) (rest : List Span) (b : Bool) → b ≡ true → filter_map (ready_at s) (ticketed t rest)
+    by : (x end : ℕ) (rest : List Span) (b : Bool) → b ≡ true → filter_map (ready_at s) (ranked t rest)
         ≡ map (λ x. (t, x)) (named s rest)
-        → (cond b t (record { front = x; turn = 0 }), (s, x)) ∷ filter_map (ready_at s) (ticketed t rest) ≡ (t, (s, x))
+        → (cond b t (record { front = x; turn = 0 }), (s, x)) ∷ filter_map (ready_at s) (ranked t rest) ≡ (t, (s, x))
         ∷ map (λ x. (t, x)) (named s rest)
-    by x end rest b is h = rw is (ap (λ (l : List (Ticket × (ℕ × ℕ))). (t, (s, x)) ∷ l) h)
+    by x end rest b is h = rw is (ap (λ (l : List (Rank × (ℕ × ℕ))). (t, (s, x)) ∷ l) h)
 
     some : (a : ℕ) → a ≤ front
-        → filter_map (ready_at s) (ticketed t (cut_spans batch (suc (cut_ends batch a front)) front))
+        → filter_map (ready_at s) (ranked t (cut_spans batch (suc (cut_ends batch a front)) front))
         ≡ map (λ x. (t, x)) (named s (cut_spans batch (suc (cut_ends batch a front)) front))
         → filter_map (ready_at s)
-        (ticketed t (fresh a (cut_ends batch a front) ∷ cut_spans batch (suc (cut_ends batch a front)) front))
+        (ranked t (fresh a (cut_ends batch a front) ∷ cut_spans batch (suc (cut_ends batch a front)) front))
         ≡ map (λ x. (t, x))
         (named s (fresh a (cut_ends batch a front) ∷ cut_spans batch (suc (cut_ends batch a front)) front))
     some a h rest = by a (cut_ends batch a front) (cut_spans batch (suc (cut_ends batch a front)) front)
@@ -54,9 +54,9 @@ cut_ready batch front a s t one le =
 -- ---- the three calls
 
 -- what a subscription that cuts behind a number shows
-fresh_lane : (batch front cursor : ℕ) (t : Ticket) → spans_of (lane_held batch front (cut_lane cursor t))
+fresh_queue : (batch front cursor : ℕ) (t : Rank) → spans_of (queue_held batch front (cut_queue cursor t))
     ≡ cut_spans batch (suc cursor) front
-fresh_lane batch front cursor t = lane_spans_is batch front (cut_lane cursor t)
+fresh_queue batch front cursor t = queue_spans_is batch front (cut_queue cursor t)
 
 -- and where its floor is
 cut_at : (cursor : ℕ) → suc cursor - 1 ≡ cursor
@@ -99,34 +99,34 @@ subscribed_pictured batch window front turn link next_delivery start subs one h 
       offered = start;
       link = link;
       closed = false;
-      spans = fresh_lane batch front start t i;
+      spans = fresh_queue batch front start t i;
     } ∷ []))
     (ap (order ready_at) lanes_are
-    ∙ order_pushed ready_at t lanes lane
+    ∙ order_pushed ready_at t queues queue
     (named (length (map (pictured_sub batch front) subs)) (cut_spans batch (suc start) front))
-    (cut_ready batch front (suc start) (length lanes) t one (omega arith)
+    (cut_ready batch front (suc start) (length queues) t one (omega arith)
     ∙ ap (λ s. map (λ x. (t, x)) (named s (cut_spans batch (suc start) front))) same_length)
     (ready_earlier batch front turn next_delivery t subs one (drawn_before front turn) h))
-    (ap (order out_at) lanes_are ∙ order_pushed out_at (record { front = next_delivery; turn = 0 }) lanes lane []
-    (cut_out batch front (suc start) (length lanes) t one)
+    (ap (order out_at) lanes_are ∙ order_pushed out_at (record { front = next_delivery; turn = 0 }) queues queue []
+    (cut_out batch front (suc start) (length queues) t one)
     (out_earlier batch front turn next_delivery subs one h) ∙ append-nil _)
   where
-    t : Ticket
+    t : Rank
     t = record { front = front; turn = suc turn }
 
     new : Sub
     new = new_sub start link t
 
-    lanes : List (List Held)
-    lanes = map (sub_held batch front) subs
+    queues : List (List Held)
+    queues = map (sub_held batch front) subs
 
-    lane : List Held
-    lane = sub_held batch front new
+    queue : List Held
+    queue = sub_held batch front new
 
-    lanes_are : map (sub_held batch front) (subs ++ new ∷ []) ≡ lanes ++ lane ∷ []
+    lanes_are : map (sub_held batch front) (subs ++ new ∷ []) ≡ queues ++ queue ∷ []
     lanes_are = map-append (sub_held batch front) subs (new ∷ [])
 
-    same_length : length lanes ≡ length (map (pictured_sub batch front) subs)
+    same_length : length queues ≡ length (map (pictured_sub batch front) subs)
     same_length = length-map subs (sub_held batch front) ∙ sym (length-map subs (pictured_sub batch front))
 
 pub belongs_subscribed : (front turn link next_delivery start : ℕ) (subs : List Sub) → start ≤ front
@@ -159,37 +159,37 @@ reconnected_pictured batch window front turn link next_delivery s cursor subs su
       closed = sub.closed;
       spans = spans_are i;
     })))
-    (ap (order ready_at) lanes_are ∙ order_replaced ready_at t lanes s (sub_held batch front sub) lane
-    (named s (cut_spans batch (suc cursor) front)) lane_found tagged_ready
+    (ap (order ready_at) lanes_are ∙ order_replaced ready_at t queues s (sub_held batch front sub) queue
+    (named s (cut_spans batch (suc cursor) front)) queue_found tagged_ready
     (cut_ready batch front (suc cursor) s t one (omega arith))
     (ready_earlier batch front turn next_delivery t subs one (drawn_before front turn) h))
-    (ap (order out_at) lanes_are ∙ order_replaced out_at (record { front = next_delivery; turn = 0 }) lanes s
-    (sub_held batch front sub) lane [] lane_found tagged_out (cut_out batch front (suc cursor) s t one)
+    (ap (order out_at) lanes_are ∙ order_replaced out_at (record { front = next_delivery; turn = 0 }) queues s
+    (sub_held batch front sub) queue [] queue_found tagged_out (cut_out batch front (suc cursor) s t one)
     (out_earlier batch front turn next_delivery subs one h) ∙ append-nil _)
   where
-    t : Ticket
+    t : Rank
     t = record { front = front; turn = suc turn }
 
     new : Sub
     new = reconnected_sub sub cursor link t
 
-    lanes : List (List Held)
-    lanes = map (sub_held batch front) subs
+    queues : List (List Held)
+    queues = map (sub_held batch front) subs
 
-    lane : List Held
-    lane = lane_held batch front (cut_lane cursor t)
+    queue : List Held
+    queue = queue_held batch front (cut_queue cursor t)
 
-    lane_is : sub_held batch front new ≡ lane
-    lane_is = ap (λ b. cond b [] lane) opened
+    queue_is : sub_held batch front new ≡ queue
+    queue_is = ap (λ b. cond b [] queue) opened
 
     spans_are : spans_of (sub_held batch front new) ≡ cut_spans batch (suc cursor) front
-    spans_are = ap spans_of lane_is ∙ fresh_lane batch front cursor t
+    spans_are = ap spans_of queue_is ∙ fresh_queue batch front cursor t
 
-    lanes_are : map (sub_held batch front) (slice_set subs s new) ≡ slice_set lanes s lane
-    lanes_are = map-set (sub_held batch front) subs s new ∙ ap (slice_set lanes s) lane_is
+    lanes_are : map (sub_held batch front) (slice_set subs s new) ≡ slice_set queues s queue
+    lanes_are = map-set (sub_held batch front) subs s new ∙ ap (slice_set queues s) queue_is
 
-    lane_found : slice_get lanes s ≡ Some (sub_held batch front sub)
-    lane_found = slice_get-map (sub_held batch front) subs s ∙ ap (option_map (sub_held batch front)) found
+    queue_found : slice_get queues s ≡ Some (sub_held batch front sub)
+    queue_found = slice_get-map (sub_held batch front) subs s ∙ ap (option_map (sub_held batch front)) found
 
 pub belongs_reconnected : (front turn link next_delivery s cursor : ℕ) (subs : List Sub) (sub : Sub) → cursor
     ≤ front → AllByRecursion (Belongs front turn next_delivery) subs → slice_get subs s ≡ Some sub
@@ -223,19 +223,19 @@ unsubscribed_pictured batch window front next_delivery s subs sub found =
       link = sub.link;
       closed = true;
       spans = [];
-    })) (cut_at (lane_floor sub.lane)))
-    (ap (order ready_at) lanes_are ∙ order_cleared ready_at lanes s (sub_held batch front sub) tagged_ready
-    lane_found)
-    (ap (order out_at) lanes_are ∙ order_cleared out_at lanes s (sub_held batch front sub) tagged_out lane_found)
+    })) (cut_at (queue_floor sub.queue)))
+    (ap (order ready_at) lanes_are ∙ order_cleared ready_at queues s (sub_held batch front sub) tagged_ready
+    queue_found)
+    (ap (order out_at) lanes_are ∙ order_cleared out_at queues s (sub_held batch front sub) tagged_out queue_found)
   where
-    lanes : List (List Held)
-    lanes = map (sub_held batch front) subs
+    queues : List (List Held)
+    queues = map (sub_held batch front) subs
 
-    lanes_are : map (sub_held batch front) (slice_set subs s (closed_sub sub)) ≡ slice_set lanes s []
+    lanes_are : map (sub_held batch front) (slice_set subs s (closed_sub sub)) ≡ slice_set queues s []
     lanes_are = map-set (sub_held batch front) subs s (closed_sub sub)
 
-    lane_found : slice_get lanes s ≡ Some (sub_held batch front sub)
-    lane_found = slice_get-map (sub_held batch front) subs s ∙ ap (option_map (sub_held batch front)) found
+    queue_found : slice_get queues s ≡ Some (sub_held batch front sub)
+    queue_found = slice_get-map (sub_held batch front) subs s ∙ ap (option_map (sub_held batch front)) found
 
 -- the floor comes before the next number
 floor_before_next : (held : List Held) (next : ℕ) → HeldRise 1 held next → floor_before held next < next
@@ -245,10 +245,10 @@ floor_before_next (h ∷ rest) next rises =
 
 pub belongs_unsubscribed : (front turn next_delivery s : ℕ) (subs : List Sub) (sub : Sub)
     → AllByRecursion (Belongs front turn next_delivery) subs → slice_get subs s ≡ Some sub
-    → AreRising sub.lane → AllByRecursion (Belongs front turn next_delivery) (slice_set subs s (closed_sub sub))
+    → AreRising sub.queue → AllByRecursion (Belongs front turn next_delivery) (slice_set subs s (closed_sub sub))
 belongs_unsubscribed front turn next_delivery s subs sub h found rises =
     let b = all_get (Belongs front turn next_delivery) subs s sub h found in
-    let reach = floor_before_next sub.lane.held sub.lane.next rises in
+    let reach = floor_before_next sub.queue.held sub.queue.next rises in
     all_set (Belongs front turn next_delivery) subs s (closed_sub sub) h
     (record {
       is_offered = b.is_offered;

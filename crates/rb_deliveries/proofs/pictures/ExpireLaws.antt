@@ -6,38 +6,38 @@ use Rattle.std.specs.Prelude.{⊤}
 use Rattle.std.specs.List.{AllByRecursion, cons_option}
 use Rattle.std.proofs.lemmas.Option.{slice_get-map}
 use Rattle.rb_deliveries.specs.Expiry.{expired_held, expired_sub}
-use Rattle.rb_deliveries.specs.declared.ticket.Ticket.{Ticket}
-use Rattle.rb_deliveries.specs.declared.ticket.Held.{Held}
+use Rattle.rb_deliveries.specs.declared.rank.Rank.{Rank}
+use Rattle.rb_deliveries.specs.declared.rank.Held.{Held}
 use Rattle.rb_deliveries.specs.declared.span.Span.{Span}
 use Rattle.rb_deliveries.specs.declared.span.Status.{Status}
 use Rattle.rb_deliveries.specs.declared.span.Status.TheVariants.{Ready, InFlight}
 use Rattle.rb_deliveries.specs.declared.sub.Sub.{Sub}
 use Rattle.rb_deliveries.specs.Spans.{cut_spans, beginning, is_due, gone_back}
-use Rattle.rb_deliveries.specs.Lanes.{Lane, AreRising, HeldRise, floor_before, lane_floor, spans_of}
-use Rattle.rb_deliveries.specs.Lanes.{lane_held}
+use Rattle.rb_deliveries.specs.Queues.{Queue, AreRising, HeldRise, floor_before, queue_floor, spans_of}
+use Rattle.rb_deliveries.specs.Queues.{queue_held}
 use Rattle.rb_deliveries.specs.Orders.{order, ready_at, out_at, out_at_status}
 use Rattle.rb_deliveries.specs.Picture.{Subscription}
 use Rattle.rb_deliveries.specs.Changes.{all_expired, expires_of, goes_back, is_due_of, span_is_due}
 use Rattle.rb_deliveries.specs.Pictured.{pictured, pictured_sub}
 use Rattle.rb_deliveries.specs.Subs.{sub_held}
 use Rattle.rb_deliveries.proofs.spans.CutLaws.{CutIsFresh, cut_fresh}
-use Rattle.rb_deliveries.proofs.spans.LaneLaws.{lane_spans_is, floor_expired}
+use Rattle.rb_deliveries.proofs.spans.QueueLaws.{queue_spans_is, floor_expired}
 use Rattle.rb_deliveries.proofs.orders.Line.{all_first, all_then}
-use Rattle.rb_deliveries.proofs.orders.OrderLaws.{Leaves, expired_order, lane_out}
+use Rattle.rb_deliveries.proofs.orders.OrderLaws.{Leaves, expired_order, queue_out}
 use Rattle.rb_deliveries.proofs.orders.ExpireOrder.{ExpireReports}
 use Rattle.rb_deliveries.proofs.subs.KnownLaws.{all_get}
 use Rattle.rb_deliveries.proofs.pictures.CuttingLaws.{same_picture}
-use Rattle.rb_deliveries.proofs.spans.JoinLaws.{joins_lane}
+use Rattle.rb_deliveries.proofs.spans.JoinLaws.{joins_queue}
 
--- a subscription of which the spans that are due went back if it is open, whatever their tickets are
+-- a subscription of which the spans that are due went back if it is open, whatever their ranks are
 pub record ExpiresNow (timeout clock : ℕ) (old new : Sub) : Type 0 where
   pub start : new.start ≡ old.start
-  pub floor : lane_floor new.lane ≡ lane_floor old.lane
+  pub floor : queue_floor new.queue ≡ queue_floor old.queue
   pub offered : new.offered ≡ old.offered
   pub link : new.link ≡ old.link
   pub closed : new.closed ≡ old.closed
-  pub next : new.lane.next ≡ old.lane.next
-  pub spans : old.closed ≡ false → spans_of new.lane.held ≡ gone_back timeout clock (spans_of old.lane.held)
+  pub next : new.queue.next ≡ old.queue.next
+  pub spans : old.closed ≡ false → spans_of new.queue.held ≡ gone_back timeout clock (spans_of old.queue.held)
 
 -- each of the subscriptions
 abbrev pub AllExpire : ℕ → ℕ → List Sub → List Sub → Type 0
@@ -47,20 +47,20 @@ AllExpire timeout clock (old ∷ olds) [] = ⊥
 AllExpire timeout clock (old ∷ olds) (new ∷ news) = ExpiresNow timeout clock old new × AllExpire timeout clock olds news
 
 -- so its spans went back
-held_expire : (timeout clock : ℕ) (ticket : Held → Ticket) (held : List Held)
-    → spans_of (map (expired_held timeout clock ticket) held) ≡ gone_back timeout clock (spans_of held)
-held_expire timeout clock ticket [] = refl
-held_expire timeout clock ticket (h ∷ held) = λ i. by (is_due timeout clock h.span.status) i
-    ∷ held_expire timeout clock ticket held i
+held_expire : (timeout clock : ℕ) (rank : Held → Rank) (held : List Held)
+    → spans_of (map (expired_held timeout clock rank) held) ≡ gone_back timeout clock (spans_of held)
+held_expire timeout clock rank [] = refl
+held_expire timeout clock rank (h ∷ held) = λ i. by (is_due timeout clock h.span.status) i
+    ∷ held_expire timeout clock rank held i
   where
-    by : (t : Bool) → (cond t (record { span = record h.span { status = Ready true }; ticket = ticket h }) h).span
+    by : (t : Bool) → (cond t (record { span = record h.span { status = Ready true }; rank = rank h }) h).span
         ≡ cond t (record h.span { status = Ready true }) h.span
     by true = refl
     by false = refl
 
-pub sub_expires : (timeout clock : ℕ) (ticket : Held → Ticket) (sub : Sub)
-    → ExpiresNow timeout clock sub (expired_sub timeout clock ticket sub)
-sub_expires timeout clock ticket sub =
+pub sub_expires : (timeout clock : ℕ) (rank : Held → Rank) (sub : Sub)
+    → ExpiresNow timeout clock sub (expired_sub timeout clock rank sub)
+sub_expires timeout clock rank sub =
     record {
       start = refl;
       floor = same_floor sub.closed;
@@ -68,21 +68,21 @@ sub_expires timeout clock ticket sub =
       link = refl;
       closed = refl;
       next = refl;
-      spans = λ opened. ap (λ c. spans_of (cond c sub.lane.held (map (expired_held timeout clock ticket)
-          sub.lane.held))) opened ∙ held_expire timeout clock ticket sub.lane.held;
+      spans = λ opened. ap (λ c. spans_of (cond c sub.queue.held (map (expired_held timeout clock rank)
+          sub.queue.held))) opened ∙ held_expire timeout clock rank sub.queue.held;
     }
   where
     same_floor : (c : Bool)
-        → floor_before (cond c sub.lane.held (map (expired_held timeout clock ticket) sub.lane.held)) sub.lane.next
-        ≡ lane_floor sub.lane
+        → floor_before (cond c sub.queue.held (map (expired_held timeout clock rank) sub.queue.held)) sub.queue.next
+        ≡ queue_floor sub.queue
     same_floor true = refl
-    same_floor false = floor_expired sub.lane.next timeout clock ticket sub.lane.held
+    same_floor false = floor_expired sub.queue.next timeout clock rank sub.queue.held
 
-pub subs_expire : (timeout clock : ℕ) (ticket : Held → Ticket) (subs : List Sub)
-    → AllExpire timeout clock subs (map (expired_sub timeout clock ticket) subs)
-subs_expire timeout clock ticket [] = tt
-subs_expire timeout clock ticket (sub ∷ subs) =
-    (sub_expires timeout clock ticket sub, subs_expire timeout clock ticket subs)
+pub subs_expire : (timeout clock : ℕ) (rank : Held → Rank) (subs : List Sub)
+    → AllExpire timeout clock subs (map (expired_sub timeout clock rank) subs)
+subs_expire timeout clock rank [] = tt
+subs_expire timeout clock rank (sub ∷ subs) =
+    (sub_expires timeout clock rank sub, subs_expire timeout clock rank subs)
 
 -- ---- the subscriptions
 
@@ -101,33 +101,33 @@ gone_fresh timeout clock (p ∷ rest) h =
     λ i. ap (λ status. cond (is_due timeout clock status) (record p { status = Ready true }) p) h.0 i
     ∷ gone_fresh timeout clock rest h.1 i
 
--- what a lane shows
-lane_expires : (batch front timeout clock : ℕ) (kept kept' : Lane) → kept'.next ≡ kept.next → spans_of kept'.held
+-- what a queue shows
+queue_expires : (batch front timeout clock : ℕ) (kept kept' : Queue) → kept'.next ≡ kept.next → spans_of kept'.held
     ≡ gone_back timeout clock (spans_of kept.held)
-    → spans_of (lane_held batch front kept') ≡ gone_back timeout clock (spans_of (lane_held batch front kept))
-lane_expires batch front timeout clock kept kept' next spans =
-    lane_spans_is batch front kept' ∙ (λ i. spans i ++ cut_spans batch (next i) front)
+    → spans_of (queue_held batch front kept') ≡ gone_back timeout clock (spans_of (queue_held batch front kept))
+queue_expires batch front timeout clock kept kept' next spans =
+    queue_spans_is batch front kept' ∙ (λ i. spans i ++ cut_spans batch (next i) front)
     ∙ ap (λ l. gone_back timeout clock (spans_of kept.held) ++ l)
     (sym (gone_fresh timeout clock (cut_spans batch kept.next front) (cut_fresh batch kept.next front)))
     ∙ sym (gone_append timeout clock (spans_of kept.held) (cut_spans batch kept.next front))
-    ∙ ap (gone_back timeout clock) (sym (lane_spans_is batch front kept))
+    ∙ ap (gone_back timeout clock) (sym (queue_spans_is batch front kept))
 
 -- what a subscription shows
 sub_goes_back : (batch front timeout clock : ℕ) (old new : Sub) → ExpiresNow timeout clock old new
     → pictured_sub batch front new ≡ goes_back timeout clock (pictured_sub batch front old)
 sub_goes_back batch front timeout clock old new e =
     (λ i. with_parts (e.start i) (e.floor i) (e.offered i) (e.link i) (e.closed i)
-    (spans_of (cond (e.closed i) [] (lane_held batch front new.lane))))
-    ∙ ap (with_parts old.start (lane_floor old.lane) old.offered old.link old.closed) (by old.closed refl)
+    (spans_of (cond (e.closed i) [] (queue_held batch front new.queue))))
+    ∙ ap (with_parts old.start (queue_floor old.queue) old.offered old.link old.closed) (by old.closed refl)
   where
     with_parts : ℕ → ℕ → ℕ → ℕ → Bool → List Span → Subscription
     with_parts start floor offered link closed spans =
         record { start = start; floor = floor; offered = offered; link = link; closed = closed; spans = spans }
 
-    by : (t : Bool) → old.closed ≡ t → spans_of (cond t [] (lane_held batch front new.lane))
-        ≡ gone_back timeout clock (spans_of (cond t [] (lane_held batch front old.lane)))
+    by : (t : Bool) → old.closed ≡ t → spans_of (cond t [] (queue_held batch front new.queue))
+        ≡ gone_back timeout clock (spans_of (cond t [] (queue_held batch front old.queue)))
     by true is = refl
-    by false is = lane_expires batch front timeout clock old.lane new.lane e.next (e.spans is)
+    by false is = queue_expires batch front timeout clock old.queue new.queue e.next (e.spans is)
 
 -- what all show
 pub expired_subscriptions : (batch front timeout clock : ℕ) (subs subs' : List Sub) → AllExpire timeout clock subs subs'
@@ -162,7 +162,7 @@ spans_leave : (due : ℕ × ℕ → Bool) (timeout clock s : ℕ) (held held' : 
     → filter_map (out_at s) held' ≡ filter (λ e. not (due e.1)) (filter_map (out_at s) held)
 spans_leave due timeout clock s held held' tells spans = seen held' ∙ ap (filter_map span_out) spans ∙ left held tells
   where
-    span_out : Span → Option (Ticket × (ℕ × ℕ))
+    span_out : Span → Option (Rank × (ℕ × ℕ))
     span_out p = out_at_status s p.first p.status
 
     seen : (held : List Held) → filter_map (out_at s) held ≡ filter_map span_out (spans_of held)
@@ -170,7 +170,7 @@ spans_leave due timeout clock s held held' tells spans = seen held' ∙ ap (filt
     seen (h ∷ held) = ap (cons_option (out_at s h)) (seen held)
 
     one : (p : Span) (status : Status) → due (s, p.first) ≡ is_due timeout clock status
-        → (rest left : List (Ticket × (ℕ × ℕ))) → rest ≡ filter (λ e. not (due e.1)) left
+        → (rest left : List (Rank × (ℕ × ℕ))) → rest ≡ filter (λ e. not (due e.1)) left
         → cons_option
         (span_out (cond (is_due timeout clock status) (record p { status = Ready true })
         (record p { status = status }))) rest
@@ -184,7 +184,7 @@ spans_leave due timeout clock s held held' tells spans = seen held' ∙ ap (filt
             ≡ filter (λ e. not (due e.1)) ((record { front = number; turn = 0 }, (s, p.first)) ∷ left)
         by true is = rw is h
         by false is =
-            rw is (ap (λ (l : List (Ticket × (ℕ × ℕ))). (record { front = number; turn = 0 }, (s, p.first)) ∷ l) h)
+            rw is (ap (λ (l : List (Rank × (ℕ × ℕ))). (record { front = number; turn = 0 }, (s, p.first)) ∷ l) h)
 
     left : (held : List Held) → AllByRecursion (ExpireReports due timeout clock s) held
         → filter_map span_out (gone_back timeout clock (spans_of held))
@@ -192,28 +192,28 @@ spans_leave due timeout clock s held held' tells spans = seen held' ∙ ap (filt
     left [] tells = refl
     left (h ∷ held) tells = one h.span h.span.status tells.0 _ _ (left held tells.1)
 
--- what is out of a subscription, where its open lane's spans are told by their names
+-- what is out of a subscription, where its open queue's spans are told by their names
 sub_leaves : (batch front : ℕ) (due : ℕ × ℕ → Bool) (timeout clock s : ℕ) (old new : Sub) → 1 ≤ batch
-    → (old.closed ≡ false → AllByRecursion (ExpireReports due timeout clock s) old.lane.held)
+    → (old.closed ≡ false → AllByRecursion (ExpireReports due timeout clock s) old.queue.held)
     → ExpiresNow timeout clock old new
     → filter_map (out_at s) (sub_held batch front new)
     ≡ filter (λ e. not (due e.1)) (filter_map (out_at s) (sub_held batch front old))
 sub_leaves batch front due timeout clock s old new one tells e =
-    ap (λ c. filter_map (out_at s) (cond c [] (lane_held batch front new.lane))) e.closed ∙ by old.closed refl tells
+    ap (λ c. filter_map (out_at s) (cond c [] (queue_held batch front new.queue))) e.closed ∙ by old.closed refl tells
   where
-    by : (c : Bool) → old.closed ≡ c → (c ≡ false → AllByRecursion (ExpireReports due timeout clock s) old.lane.held)
-        → filter_map (out_at s) (cond c [] (lane_held batch front new.lane))
-        ≡ filter (λ e. not (due e.1)) (filter_map (out_at s) (cond c [] (lane_held batch front old.lane)))
+    by : (c : Bool) → old.closed ≡ c → (c ≡ false → AllByRecursion (ExpireReports due timeout clock s) old.queue.held)
+        → filter_map (out_at s) (cond c [] (queue_held batch front new.queue))
+        ≡ filter (λ e. not (due e.1)) (filter_map (out_at s) (cond c [] (queue_held batch front old.queue)))
     by true is tells = refl
     by false is tells =
-        lane_out batch front s new.lane one ∙ spans_leave due timeout clock s old.lane.held new.lane.held (tells refl)
+        queue_out batch front s new.queue one ∙ spans_leave due timeout clock s old.queue.held new.queue.held (tells refl)
         (e.spans is)
-        ∙ ap (filter (λ e. not (due e.1))) (sym (lane_out batch front s old.lane one))
+        ∙ ap (filter (λ e. not (due e.1))) (sym (queue_out batch front s old.queue one))
 
 -- and of all from number s on
 subs_leave : (batch front : ℕ) (due : ℕ × ℕ → Bool) (timeout clock s : ℕ) (subs subs' : List Sub) → 1 ≤ batch
     → ((k i : ℕ) (sub : Sub) → k ≡ s + i → slice_get subs i ≡ Some sub → sub.closed ≡ false
-    → AllByRecursion (ExpireReports due timeout clock k) sub.lane.held)
+    → AllByRecursion (ExpireReports due timeout clock k) sub.queue.held)
     → AllExpire timeout clock subs subs'
     → Leaves out_at due s (map (sub_held batch front) subs) (map (sub_held batch front) subs')
 subs_leave batch front due timeout clock s [] [] one tell e = tt
@@ -227,7 +227,7 @@ subs_leave batch front due timeout clock s (old ∷ olds) (new ∷ news) one tel
 
 -- the spans that a subscription keeps rise, and the next number is no later than the one behind the front
 abbrev pub ExpireFollows : ℕ → Sub → Type 0
-ExpireFollows front sub = (sub.lane.next ≤ suc front) × AreRising sub.lane
+ExpireFollows front sub = (sub.queue.next ≤ suc front) × AreRising sub.queue
 
 -- the picture's test on a name tells whether the span is due
 abbrev pub due_of : ℕ → ℕ → List Sub → ℕ → ℕ → ℕ × ℕ → Bool
@@ -236,24 +236,24 @@ due_of batch front subs timeout now = expires_of (map (pictured_sub batch front)
 pub expire_told : (batch front timeout now : ℕ) (subs : List Sub) (k : ℕ) (sub : Sub) → 1 ≤ batch
     → ExpireFollows front sub → slice_get subs k ≡ Some sub → sub.closed ≡ false
     → AllByRecursion (ExpireReports (due_of batch front subs timeout now) timeout now k)
-    (lane_held batch front sub.lane)
+    (queue_held batch front sub.queue)
 expire_told batch front timeout now subs k sub one follows found opened =
-    all_then (ExpireFound 1 (lane_held batch front sub.lane))
+    all_then (ExpireFound 1 (queue_held batch front sub.queue))
     (ExpireReports (due_of batch front subs timeout now) timeout now k)
-    (lane_held batch front sub.lane) each
-    (each_begins 1 (suc front) (lane_held batch front sub.lane)
-    (joins_lane batch front sub.lane one follows.0 follows.1))
+    (queue_held batch front sub.queue) each
+    (each_begins 1 (suc front) (queue_held batch front sub.queue)
+    (joins_queue batch front sub.queue one follows.0 follows.1))
   where
     seen : slice_get (map (pictured_sub batch front) subs) k ≡ Some (pictured_sub batch front sub)
     seen = slice_get-map (pictured_sub batch front) subs k ∙ ap (option_map (pictured_sub batch front)) found
 
-    each : (h : Held) → ExpireFound 1 (lane_held batch front sub.lane) h
+    each : (h : Held) → ExpireFound 1 (queue_held batch front sub.queue) h
         → is_due_of timeout now h.span.first (slice_get (map (pictured_sub batch front) subs) k)
         ≡ is_due timeout now h.span.status
     each h f =
         ap (is_due_of timeout now h.span.first) seen
         ∙ ap (λ c. span_is_due timeout now
-        (beginning h.span.first (spans_of (cond c [] (lane_held batch front sub.lane))))) opened
+        (beginning h.span.first (spans_of (cond c [] (queue_held batch front sub.queue))))) opened
         ∙ ap (span_is_due timeout now) f.1
 
 -- ---- the call
@@ -269,10 +269,10 @@ expired_in_flight batch front timeout now subs subs' one follows e =
     (subs_leave batch front (due_of batch front subs timeout now) timeout now 0 subs subs' one tell e)
   where
     tell : (k i : ℕ) (sub : Sub) → k ≡ 0 + i → slice_get subs i ≡ Some sub → sub.closed ≡ false
-        → AllByRecursion (ExpireReports (due_of batch front subs timeout now) timeout now k) sub.lane.held
+        → AllByRecursion (ExpireReports (due_of batch front subs timeout now) timeout now k) sub.queue.held
     tell k i sub is found opened =
         let same : k ≡ i = omega (arith, is) in
-        all_first (ExpireReports (due_of batch front subs timeout now) timeout now k) sub.lane.held _
+        all_first (ExpireReports (due_of batch front subs timeout now) timeout now k) sub.queue.held _
         (expire_told batch front timeout now subs k sub one
         (all_get (ExpireFollows front) subs i sub follows found) (ap (slice_get subs) same ∙ found) opened)
 

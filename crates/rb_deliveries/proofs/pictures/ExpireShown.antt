@@ -5,7 +5,7 @@ use Rattle.std.specs.List.{AllByRecursion}
 use Rattle.std.proofs.lemmas.List.{length-map}
 use Rattle.rb_deliveries.specs.Expiry.{turns_from, by_number, expired_sub, all_due}
 use Rattle.rb_deliveries.specs.declared.sub.Sub.{Sub}
-use Rattle.rb_deliveries.specs.Lanes.{AreRising, lane_held}
+use Rattle.rb_deliveries.specs.Queues.{AreRising, queue_held}
 use Rattle.rb_deliveries.specs.Orders.{in_line, order, all_at, ready_at, out_at}
 use Rattle.rb_deliveries.specs.Subs.{sub_held, Belongs}
 use Rattle.rb_deliveries.proofs.orders.Line.{line_filter}
@@ -20,19 +20,19 @@ use Rattle.rb_deliveries.proofs.pictures.ExpireLaws.{ExpireFollows, due_of, expi
 
 -- what belongs and rises does so up to the front
 follow : (front turn number : ℕ) (subs : List Sub) → AllByRecursion (Belongs front turn number) subs
-    → AllByRecursion (λ sub. AreRising sub.lane) subs → AllByRecursion (ExpireFollows front) subs
+    → AllByRecursion (λ sub. AreRising sub.queue) subs → AllByRecursion (ExpireFollows front) subs
 follow front turn number [] b j = tt
 follow front turn number (sub ∷ rest) b j = ((b.0.is_next, j.0), follow front turn number rest b.1 j.1)
 
 module _ (batch window front turn number timeout now : ℕ) (subs : List Sub) (one : 1 ≤ batch)
-    (b : AllByRecursion (Belongs front turn number) subs) (rise : AllByRecursion (λ sub. AreRising sub.lane) subs) where
+    (b : AllByRecursion (Belongs front turn number) subs) (rise : AllByRecursion (λ sub. AreRising sub.queue) subs) where
   follows : AllByRecursion (ExpireFollows front) subs
   follows = follow front turn number subs b rise
 
   -- the picture's test tells of each span whether it is due
   all_told : (k i : ℕ) (sub : Sub) → k ≡ 0 + i → slice_get subs i ≡ Some sub → sub.closed ≡ false
       → AllByRecursion (ExpireReports (due_of batch front subs timeout now) timeout now k)
-      (lane_held batch front sub.lane)
+      (queue_held batch front sub.queue)
   all_told k i sub is found opened =
       let same : k ≡ i = omega (arith, is) in
       expire_told batch front timeout now subs k sub one

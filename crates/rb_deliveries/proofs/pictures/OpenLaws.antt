@@ -7,11 +7,11 @@ use Rattle.std.proofs.lemmas.Option.{slice_get-map}
 use Rattle.rb_deliveries.specs.declared.span.Span.{Span}
 use Rattle.rb_deliveries.specs.declared.span.Status.{Status}
 use Rattle.rb_deliveries.specs.declared.span.Status.TheVariants.{Ready, InFlight}
-use Rattle.rb_deliveries.specs.declared.ticket.Ticket.{Ticket}
-use Rattle.rb_deliveries.specs.declared.ticket.Held.{Held}
+use Rattle.rb_deliveries.specs.declared.rank.Rank.{Rank}
+use Rattle.rb_deliveries.specs.declared.rank.Held.{Held}
 use Rattle.rb_deliveries.specs.declared.sub.Sub.{Sub}
 use Rattle.rb_deliveries.specs.Spans.{is_ready, is_out, with_status}
-use Rattle.rb_deliveries.specs.Lanes.{AreRising, earlier, spans_of, lane_held}
+use Rattle.rb_deliveries.specs.Queues.{AreRising, earlier, spans_of, queue_held}
 use Rattle.rb_deliveries.specs.Orders.{order, ready_at, out_at, out_at_status}
 use Rattle.rb_deliveries.specs.Picture.{Subscription}
 use Rattle.rb_deliveries.specs.Pictured.{pictured, pictured_sub}
@@ -26,7 +26,7 @@ pub record IsOpen (batch front turn number : ℕ) (subs : List Sub) (s : ℕ) (s
   pub belong : AllByRecursion (Belongs front turn number) subs
   pub found : slice_get subs s ≡ Some sub
   pub is_open : sub.closed ≡ false
-  pub rises : AreRising sub.lane
+  pub rises : AreRising sub.queue
 
 -- ---- what comes next
 
@@ -34,16 +34,16 @@ pub record IsOpen (batch front turn number : ℕ) (subs : List Sub) (s : ℕ) (s
 pub next_is_newest : (front turn number s : ℕ) (subs : List Sub) → AllByRecursion (Belongs front turn number) subs
     → IsNewestAt subs s number
 next_is_newest front turn number s subs b sub found =
-    all_then (IsKnown front turn number) (λ h. IsGiven number h.span.status) sub.lane.held (λ h known. known.2)
+    all_then (IsKnown front turn number) (λ h. IsGiven number h.span.status) sub.queue.held (λ h known. known.2)
     (all_get (Belongs front turn number) subs s sub b found).are_known
 
--- the next turn's ticket comes after those that were drawn
+-- the next turn's rank comes after those that were drawn
 pub next_comes_last : (front turn number s : ℕ) (subs : List Sub) → AllByRecursion (Belongs front turn number) subs
     → ComesLastAt subs s (record { front = front; turn = suc turn })
 next_comes_last front turn number s subs b sub found =
     all_then (IsKnown front turn number)
-    (λ h. earlier h.ticket (record { front = front; turn = suc turn }) ≡ true) sub.lane.held
-    (λ h known. drawn_before front turn h.ticket known.1)
+    (λ h. earlier h.rank (record { front = front; turn = suc turn }) ≡ true) sub.queue.held
+    (λ h known. drawn_before front turn h.rank known.1)
     (all_get (Belongs front turn number) subs s sub b found).are_known
 
 -- ---- which order a span stands in
@@ -59,7 +59,7 @@ ready_not_out (InFlight number moment) is = sym is
 
 -- one that isn't ready doesn't stand in the ready order, and one that isn't out doesn't stand in the in-flight order
 not_ready_at : (s : ℕ) (h : Held) → is_ready h.span.status ≡ false → ready_at s h ≡ None
-not_ready_at s h is = ap (λ b. cond b (Some (h.ticket, (s, h.span.first))) None) is
+not_ready_at s h is = ap (λ b. cond b (Some (h.rank, (s, h.span.first))) None) is
 
 not_out_at : (s first : ℕ) (status : Status) → is_out status ≡ false → out_at_status s first status ≡ None
 not_out_at s first (Ready taken) is = refl
@@ -78,13 +78,13 @@ stood_not_out s h span same is = ap (λ (p : Span). out_at_status s p.first p.st
 
 module _ (batch window front turn number : ℕ) (subs : List Sub) (s : ℕ) (sub : Sub)
     (o : IsOpen batch front turn number subs s sub) where
-  -- the lanes of all
-  abbrev pub lanes : List (List Held)
-  lanes = map (sub_held batch front) subs
+  -- the queues of all
+  abbrev pub queues : List (List Held)
+  queues = map (sub_held batch front) subs
 
-  -- its lane
-  pub lane_found : slice_get lanes s ≡ Some (lane_held batch front sub.lane)
-  lane_found = slice_get-map (sub_held batch front) subs s ∙ ap (option_map (sub_held batch front)) o.found
+  -- its queue
+  pub queue_found : slice_get queues s ≡ Some (queue_held batch front sub.queue)
+  queue_found = slice_get-map (sub_held batch front) subs s ∙ ap (option_map (sub_held batch front)) o.found
       ∙ ap (λ held. Some held) (held_open batch front sub o.is_open)
 
   -- it belongs
@@ -93,15 +93,15 @@ module _ (batch window front turn number : ℕ) (subs : List Sub) (s : ℕ) (sub
 
   -- another one in its place
   lanes_set : (sub' : Sub) → sub'.closed ≡ false → map (sub_held batch front) (slice_set subs s sub')
-      ≡ slice_set lanes s (lane_held batch front sub'.lane)
+      ≡ slice_set queues s (queue_held batch front sub'.queue)
   lanes_set sub' is = map-set (sub_held batch front) subs s sub'
-      ∙ ap (slice_set lanes s) (held_open batch front sub' is)
+      ∙ ap (slice_set queues s) (held_open batch front sub' is)
 
   -- the picture with another one in its place
   pub pictured_changed : (number' : ℕ) (sub' : Sub) (q : Subscription) (ready out : List (ℕ × ℕ))
       → sub'.closed ≡ false → pictured_sub batch front sub' ≡ q
-      → order ready_at (slice_set lanes s (lane_held batch front sub'.lane)) ≡ ready
-      → order out_at (slice_set lanes s (lane_held batch front sub'.lane)) ≡ out
+      → order ready_at (slice_set queues s (queue_held batch front sub'.queue)) ≡ ready
+      → order out_at (slice_set queues s (queue_held batch front sub'.queue)) ≡ out
       → pictured batch window front number' (slice_set subs s sub') ≡ record {
         batch = batch;
         window = window;
@@ -127,11 +127,11 @@ module _ (batch window front turn number : ℕ) (subs : List Sub) (s : ℕ) (sub
         in_flight = out_order i;
       })
 
-  -- the spans of another one in its place, where one span of its lane changes
-  pub spans_changed : (span : Span) (status : Status) (ticket : Ticket) (sub' : Sub) → sub'.closed ≡ false
-      → Changes span status ticket (lane_held batch front sub.lane) (lane_held batch front sub'.lane)
+  -- the spans of another one in its place, where one span of its queue changes
+  pub spans_changed : (span : Span) (status : Status) (rank : Rank) (sub' : Sub) → sub'.closed ≡ false
+      → Changes span status rank (queue_held batch front sub.queue) (queue_held batch front sub'.queue)
       → spans_of (sub_held batch front sub')
       ≡ with_status span.first status (spans_of (sub_held batch front sub))
-  spans_changed span status ticket sub' is c =
-      ap spans_of (held_open batch front sub' is) ∙ changed_spans span status ticket c
+  spans_changed span status rank sub' is c =
+      ap spans_of (held_open batch front sub' is) ∙ changed_spans span status rank c
       ∙ ap (λ held. with_status span.first status (spans_of held)) (sym (held_open batch front sub o.is_open))

@@ -7,16 +7,16 @@ use Rattle.std.proofs.lemmas.List.Folds.{find-append}
 use Rattle.std.proofs.lemmas.Bool.{ltb-true, ltb-false}
 use Rattle.rb_deliveries.specs.declared.span.Span.{Span}
 use Rattle.rb_deliveries.specs.declared.sub.Sub.{Sub}
-use Rattle.rb_deliveries.specs.declared.ticket.Held.{Held}
+use Rattle.rb_deliveries.specs.declared.rank.Held.{Held}
 use Rattle.rb_deliveries.specs.Spans.{cut_spans, first_ready, how_many_out, is_out_as, out_as}
 use Rattle.rb_deliveries.specs.Subs.{sub_out_as}
 use Rattle.rb_deliveries.specs.Changes.{has_no_spans}
 use Rattle.rb_deliveries.specs.Pictured.{pictured_sub}
-use Rattle.rb_deliveries.specs.Lanes.{Lane, spans_of, lane_held, lane_spans, is_none_left}
+use Rattle.rb_deliveries.specs.Queues.{Queue, spans_of, queue_held, queue_spans, is_none_left}
 use Rattle.rb_deliveries.proofs.spans.CutLaws.{CutIsFresh, cut_fresh, cut_none, cut_some}
-use Rattle.rb_deliveries.proofs.spans.LaneLaws.{lane_spans_is}
+use Rattle.rb_deliveries.proofs.spans.QueueLaws.{queue_spans_is}
 use Rattle.rb_deliveries.proofs.spans.FirstLaws.{none_some}
-use Rattle.rb_deliveries.proofs.spans.FoundLaws.{lane_how_many_out}
+use Rattle.rb_deliveries.proofs.spans.FoundLaws.{queue_how_many_out}
 
 fresh_none_out : (d : ℕ) (spans : List Span) → AllByRecursion CutIsFresh spans → out_as d spans ≡ None
 fresh_none_out d [] h = refl
@@ -28,14 +28,14 @@ call_or_none None = refl
 call_or_none (Some x) = refl
 
 out_as_by : (batch front d : ℕ) (sub : Sub) (t : Bool)
-    → out_as d (spans_of (cond t [] (lane_held batch front sub.lane))) ≡ cond t None (out_as d (spans_of sub.lane.held))
+    → out_as d (spans_of (cond t [] (queue_held batch front sub.queue))) ≡ cond t None (out_as d (spans_of sub.queue.held))
 out_as_by batch front d sub true = refl
 out_as_by batch front d sub false =
-    ap (out_as d) (lane_spans_is batch front sub.lane)
-    ∙ find-append (λ (p : Span). is_out_as d p.status) (spans_of sub.lane.held)
-    (cut_spans batch sub.lane.next front)
-    ∙ ap (option_or (out_as d (spans_of sub.lane.held)))
-    (fresh_none_out d (cut_spans batch sub.lane.next front) (cut_fresh batch sub.lane.next front)) ∙ call_or_none _
+    ap (out_as d) (queue_spans_is batch front sub.queue)
+    ∙ find-append (λ (p : Span). is_out_as d p.status) (spans_of sub.queue.held)
+    (cut_spans batch sub.queue.next front)
+    ∙ ap (option_or (out_as d (spans_of sub.queue.held)))
+    (fresh_none_out d (cut_spans batch sub.queue.next front) (cut_fresh batch sub.queue.next front)) ∙ call_or_none _
 
 -- the span that is out as a delivery is the one that is kept
 pub out_as_is : (batch front d : ℕ) (sub : Sub) → out_as d (pictured_sub batch front sub).spans ≡ sub_out_as d sub
@@ -48,26 +48,26 @@ out_running_by false o span h = (refl, h)
 
 -- what is out is out of a subscription that isn't closed
 pub out_running : (d : ℕ) (sub : Sub) (span : Span) → sub_out_as d sub ≡ Some span → (sub.closed ≡ false)
-    × (out_as d (spans_of sub.lane.held) ≡ Some span)
-out_running d sub span h = out_running_by sub.closed (out_as d (spans_of sub.lane.held)) span h
+    × (out_as d (spans_of sub.queue.held) ≡ Some span)
+out_running d sub span h = out_running_by sub.closed (out_as d (spans_of sub.queue.held)) span h
 
 -- what is ready is ready in a subscription that isn't closed
 pub ready_running : (batch front : ℕ) (sub : Sub) (span : Span)
     → first_ready (pictured_sub batch front sub).spans ≡ Some span
-    → (sub.closed ≡ false) × (first_ready (lane_spans batch front sub.lane) ≡ Some span)
+    → (sub.closed ≡ false) × (first_ready (queue_spans batch front sub.queue) ≡ Some span)
 ready_running batch front sub span = by sub.closed
   where
-    by : (t : Bool) → first_ready (spans_of (cond t [] (lane_held batch front sub.lane))) ≡ Some span
-        → (t ≡ false) × (first_ready (lane_spans batch front sub.lane) ≡ Some span)
+    by : (t : Bool) → first_ready (spans_of (cond t [] (queue_held batch front sub.queue))) ≡ Some span
+        → (t ≡ false) × (first_ready (queue_spans batch front sub.queue) ≡ Some span)
     by true h = absurd (none_some h)
     by false h = (refl, h)
 
 -- how many are out of an open subscription
 pub how_many_open : (batch front : ℕ) (sub : Sub) → sub.closed ≡ false
-    → how_many_out (pictured_sub batch front sub).spans ≡ how_many_out (spans_of sub.lane.held)
+    → how_many_out (pictured_sub batch front sub).spans ≡ how_many_out (spans_of sub.queue.held)
 how_many_open batch front sub is =
-    ap (λ t. how_many_out (spans_of (cond t [] (lane_held batch front sub.lane)))) is
-    ∙ lane_how_many_out batch front sub.lane
+    ap (λ t. how_many_out (spans_of (cond t [] (queue_held batch front sub.queue)))) is
+    ∙ queue_how_many_out batch front sub.queue
 
 -- ---- whether there are none
 
@@ -77,7 +77,7 @@ none_cut true spans none some = ap has_no_spans (none refl)
 none_cut false [] none some = absurd (some refl refl)
 none_cut false (p ∷ rest) none some = refl
 
-none_held : (batch front : ℕ) (held : List Held) (kept : Lane) → kept.held ≡ held → 1 ≤ batch
+none_held : (batch front : ℕ) (held : List Held) (kept : Queue) → kept.held ≡ held → 1 ≤ batch
     → has_no_spans (spans_of held ++ cut_spans batch kept.next front) ≡ is_none_left kept front
 none_held batch front [] kept e one =
     none_cut (nat_lt front kept.next) (cut_spans batch kept.next front)
@@ -90,13 +90,13 @@ none_held batch front [] kept e one =
     some_first {p} {rest} e none = none_some (sym none ∙ ap (λ xs. slice_get xs 0) e)
 none_held batch front (h ∷ rest) kept e one = ap (λ xs. is_none_left (record kept { held = xs }) front) (sym e)
 
-no_spans_by : (batch front : ℕ) (lane : Lane) (t : Bool) → 1 ≤ batch
-    → has_no_spans (spans_of (cond t [] (lane_held batch front lane))) ≡ (t || is_none_left lane front)
-no_spans_by batch front lane true one = refl
-no_spans_by batch front lane false one = ap has_no_spans (lane_spans_is batch front lane)
-    ∙ none_held batch front lane.held lane refl one
+no_spans_by : (batch front : ℕ) (queue : Queue) (t : Bool) → 1 ≤ batch
+    → has_no_spans (spans_of (cond t [] (queue_held batch front queue))) ≡ (t || is_none_left queue front)
+no_spans_by batch front queue true one = refl
+no_spans_by batch front queue false one = ap has_no_spans (queue_spans_is batch front queue)
+    ∙ none_held batch front queue.held queue refl one
 
 -- a subscription has no spans if it is closed or none is left
 pub no_spans_is : (batch front : ℕ) (sub : Sub) → 1 ≤ batch
-    → has_no_spans (pictured_sub batch front sub).spans ≡ (sub.closed || is_none_left sub.lane front)
-no_spans_is batch front sub one = no_spans_by batch front sub.lane sub.closed one
+    → has_no_spans (pictured_sub batch front sub).spans ≡ (sub.closed || is_none_left sub.queue front)
+no_spans_is batch front sub one = no_spans_by batch front sub.queue sub.closed one

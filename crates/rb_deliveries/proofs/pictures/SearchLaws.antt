@@ -4,10 +4,10 @@ use Rattle.std.proofs.Common.{slice_get, nat_lt, refl, sym, ap, subst, ◌∙◌
 use Rattle.std.specs.List.{AllByRecursion}
 use Rattle.std.proofs.lemmas.Option.{slice_get-map}
 use Rattle.rb_deliveries.specs.declared.span.Span.{Span}
-use Rattle.rb_deliveries.specs.declared.ticket.Held.{Held}
+use Rattle.rb_deliveries.specs.declared.rank.Held.{Held}
 use Rattle.rb_deliveries.specs.declared.sub.Sub.{Sub}
 use Rattle.rb_deliveries.specs.Spans.{how_many_out}
-use Rattle.rb_deliveries.specs.Lanes.{AreRising, spans_of, lane_held, least}
+use Rattle.rb_deliveries.specs.Queues.{AreRising, spans_of, queue_held, least}
 use Rattle.rb_deliveries.specs.Orders.{order, ready_at}
 use Rattle.rb_deliveries.specs.Subs.{Belongs, IsDeliverable, first_to_deliver, span_to_deliver, sub_held}
 use Rattle.rb_deliveries.specs.Picture.{Subscription}
@@ -24,7 +24,7 @@ use Rattle.rb_deliveries.proofs.subs.KnownLaws.{all_get}
 find_ready : (batch window front number : ℕ) (subs : List Sub)
     → find (has_room_of (map (pictured_sub batch front) subs) window) (order ready_at (map (sub_held batch front) subs))
     ≡ option_map (λ e. e.1) (candidates batch front
-    (λ sub. nat_lt (how_many_out (spans_of (lane_held batch front sub.lane))) window) 0 subs)
+    (λ sub. nat_lt (how_many_out (spans_of (queue_held batch front sub.queue))) window) 0 subs)
 find_ready batch window front number subs =
     find_order ready_at (has_room_of all window) (map (sub_held batch front) subs)
     ∙ ap (option_map (λ e. e.1))
@@ -40,23 +40,23 @@ find_ready batch window front number subs =
         let seen : slice_get (map (pictured_sub batch front) subs) k ≡ Some (pictured_sub batch front sub) =
         ap (slice_get (map (pictured_sub batch front) subs)) same ∙ slice_get-map (pictured_sub batch front) subs i
         ∙ ap (option_map (pictured_sub batch front)) found in
-        rw seen (ap (λ c. nat_lt (how_many_out (spans_of (cond c [] (lane_held batch front sub.lane)))) window)
+        rw seen (ap (λ c. nat_lt (how_many_out (spans_of (cond c [] (queue_held batch front sub.queue)))) window)
         opened)
 
 -- the subscription of the first of all is open, and the span may be delivered
 pub record MayGo (batch front turn number : ℕ) (subs : List Sub) (s : ℕ) (span : Span) : Type 0 where
   pub sub : Sub
   pub opened : IsOpen batch front turn number subs s sub
-  pub may : IsDeliverable batch front sub.lane span
+  pub may : IsDeliverable batch front sub.queue span
 
 pair_same : (c : ℕ × Span) (s : ℕ) (span : Span) → Some c ≡ Some (s, span) → (c.0 ≡ s) × (c.1 ≡ span)
 pair_same c s span h =
     let same : c ≡ (s, span) = cc in (ap (λ (c : ℕ × Span). c.0) same, ap (λ (c : ℕ × Span). c.1) same)
 
 module _ (batch window front turn number : ℕ) (subs : List Sub) (one : 1 ≤ batch)
-    (b : AllByRecursion (Belongs front turn number) subs) (rise : AllByRecursion (λ sub. AreRising sub.lane) subs) where
+    (b : AllByRecursion (Belongs front turn number) subs) (rise : AllByRecursion (λ sub. AreRising sub.queue) subs) where
   goes_at : (c : ℕ × Held) → first_to_deliver window batch front 0 subs ≡ Some c
-      → (sub : Sub) × IsOpen batch front turn number subs c.0 sub × (least (lane_held batch front sub.lane) ≡ Some c.1)
+      → (sub : Sub) × IsOpen batch front turn number subs c.0 sub × (least (queue_held batch front sub.queue) ≡ Some c.1)
   goes_at c is =
       let g = first_goes window batch front 0 subs c is in
       let here : slice_get subs c.0 ≡ Some g.1 = subst (λ k. slice_get subs k ≡ Some g.1) (omega (arith, g.2)) g.3 in
@@ -67,7 +67,7 @@ module _ (batch window front turn number : ℕ) (subs : List Sub) (one : 1 ≤ b
           belong = b;
           found = here;
           is_open = o.0;
-          rises = all_get (λ (sub : Sub). AreRising sub.lane) subs c.0 g.1 rise here;
+          rises = all_get (λ (sub : Sub). AreRising sub.queue) subs c.0 g.1 rise here;
         },
         o.1,
       )
@@ -112,6 +112,6 @@ module _ (batch window front turn number : ℕ) (subs : List Sub) (one : 1 ≤ b
           record {
             sub = g.0;
             opened = subst (λ k. IsOpen batch front turn number subs k g.0) same.0 g.1;
-            may = subst (λ (span : Span). IsDeliverable batch front g.0.lane span) same.1
-                (may_go_least batch front g.0.lane c.1 one g.2);
+            may = subst (λ (span : Span). IsDeliverable batch front g.0.queue span) same.1
+                (may_go_least batch front g.0.queue c.1 one g.2);
           }

@@ -1,4 +1,4 @@
--- One span of a lane changes or is removed: what that changes in the lane's spans, and in the orders.
+-- One span of a queue changes or is removed: what that changes in the queue's spans, and in the orders.
 use Rattle.std.proofs.Common.{◌≡◌, ℕ, eq-eqb, Bool, true, false, not, ◌==◌, ◌&&◌, cond, List, [], ◌∷◌, ◌++◌, map}
 use Rattle.std.proofs.Common.{Option, Some, None, IfSome, filter, filter_map, append_assoc, refl, sym, ap, ◌∙◌}
 use Rattle.std.specs.List.{AllByRecursion, cons_option}
@@ -6,47 +6,47 @@ use Rattle.std.proofs.lemmas.List.{map-append}
 use Rattle.std.proofs.lemmas.List.Elements.{filter-append, filter_map-append}
 use Rattle.rb_deliveries.specs.declared.span.Span.{Span}
 use Rattle.rb_deliveries.specs.declared.span.Status.{Status}
-use Rattle.rb_deliveries.specs.declared.ticket.Ticket.{Ticket}
-use Rattle.rb_deliveries.specs.declared.ticket.Held.{Held}
+use Rattle.rb_deliveries.specs.declared.rank.Rank.{Rank}
+use Rattle.rb_deliveries.specs.declared.rank.Held.{Held}
 use Rattle.rb_deliveries.specs.Spans.{with_status, without_first}
-use Rattle.rb_deliveries.specs.Lanes.{spans_of, stated, restated, without_held}
+use Rattle.rb_deliveries.specs.Queues.{spans_of, stated, restated, without_held}
 use Rattle.rb_deliveries.proofs.orders.OrderLaws.{At, Tagged, is_at}
 use Rattle.rb_deliveries.proofs.spans.JoinLaws.{Other}
 
--- the span that begins with a number gets a status and a ticket: that is the one with this status in the spans
-pub spans_restated : (first : ℕ) (status : Status) (ticket : Ticket) (xs : List Held)
-    → spans_of (restated first status ticket xs) ≡ with_status first status (spans_of xs)
-spans_restated first status ticket [] = refl
-spans_restated first status ticket (h ∷ xs) =
-    (λ i. one (h.span.first == first) i ∷ spans_restated first status ticket xs i)
+-- the span that begins with a number gets a status and a rank: that is the one with this status in the spans
+pub spans_restated : (first : ℕ) (status : Status) (rank : Rank) (xs : List Held)
+    → spans_of (restated first status rank xs) ≡ with_status first status (spans_of xs)
+spans_restated first status rank [] = refl
+spans_restated first status rank (h ∷ xs) =
+    (λ i. one (h.span.first == first) i ∷ spans_restated first status rank xs i)
   where
-    one : (b : Bool) → (cond b (record { span = record h.span { status = status }; ticket = ticket }) h).span
+    one : (b : Bool) → (cond b (record { span = record h.span { status = status }; rank = rank }) h).span
         ≡ cond b (record h.span { status = status }) h.span
     one true = refl
     one false = refl
 
 -- those that begin with other numbers stay
-pub restated_others : (first : ℕ) (status : Status) (ticket : Ticket) (xs : List Held) → AllByRecursion (Other first) xs
-    → restated first status ticket xs ≡ xs
-restated_others first status ticket [] others = refl
-restated_others first status ticket (h ∷ xs) others =
-    (λ i. cond (others.0 i) (record { span = record h.span { status = status }; ticket = ticket }) h
-    ∷ restated_others first status ticket xs others.1 i)
+pub restated_others : (first : ℕ) (status : Status) (rank : Rank) (xs : List Held) → AllByRecursion (Other first) xs
+    → restated first status rank xs ≡ xs
+restated_others first status rank [] others = refl
+restated_others first status rank (h ∷ xs) others =
+    (λ i. cond (others.0 i) (record { span = record h.span { status = status }; rank = rank }) h
+    ∷ restated_others first status rank xs others.1 i)
 
 -- an entry of a span that begins with another number is another one, and one that begins with this number is this one
-own_entry : (s first : ℕ) (o : Option (Ticket × (ℕ × ℕ))) (h : Held) → IfSome o (λ e. e.1 ≡ (s, h.span.first))
+own_entry : (s first : ℕ) (o : Option (Rank × (ℕ × ℕ))) (h : Held) → IfSome o (λ e. e.1 ≡ (s, h.span.first))
     → (b : Bool) → (h.span.first == first) ≡ b → IfSome o (λ e. not (is_at s first e.1) ≡ not b)
 own_entry s first None h is b same = tt
 own_entry s first (Some e) h is b same = ap (λ x. not (is_at s first x)) is
     ∙ ap (λ c. not (c && (h.span.first == first))) (eq-eqb s s refl) ∙ ap not same
 
 -- of an entry that passes, and others, all or the others are left
-change_one_left : (test : Ticket × (ℕ × ℕ) → Bool) (o : Option (Ticket × (ℕ × ℕ))) (es : List (Ticket × (ℕ × ℕ)))
+change_one_left : (test : Rank × (ℕ × ℕ) → Bool) (o : Option (Rank × (ℕ × ℕ))) (es : List (Rank × (ℕ × ℕ)))
     → IfSome o (λ e. test e ≡ true) → filter test (cons_option o es) ≡ cons_option o (filter test es)
 change_one_left test None es h = refl
 change_one_left test (Some e) es h = ap (λ b. cond b (e ∷ filter test es) (filter test es)) h
 
-one_gone : (test : Ticket × (ℕ × ℕ) → Bool) (o : Option (Ticket × (ℕ × ℕ))) (es : List (Ticket × (ℕ × ℕ)))
+one_gone : (test : Rank × (ℕ × ℕ) → Bool) (o : Option (Rank × (ℕ × ℕ))) (es : List (Rank × (ℕ × ℕ)))
     → IfSome o (λ e. test e ≡ false) → filter test (cons_option o es) ≡ filter test es
 one_gone test None es h = refl
 one_gone test (Some e) es h = ap (λ b. cond b (e ∷ filter test es) (filter test es)) h
@@ -67,16 +67,16 @@ left_behind : (at : At) (s first : ℕ) (ahead : List Held) (one : Held) (behind
     ++ cons_option (at s one) (filter_map (at s) behind))
     ≡ filter_map (at s) ahead ++ filter_map (at s) behind
 left_behind at s first ahead one behind tagged is others =
-    let test : Ticket × (ℕ × ℕ) → Bool = λ e. not (is_at s first e.1) in
+    let test : Rank × (ℕ × ℕ) → Bool = λ e. not (is_at s first e.1) in
     filter-append test (filter_map (at s) ahead) (cons_option (at s one) (filter_map (at s) behind))
     ∙ (λ i. others_left at s first ahead tagged others.0 i
     ++ one_gone test (at s one) (filter_map (at s) behind)
     (own_entry s first (at s one) one (tagged s one) true (eq-eqb one.span.first first is)) i)
     ∙ ap (λ z. filter_map (at s) ahead ++ z) (others_left at s first behind tagged others.1)
 
--- a span with another status and ticket
-abbrev pub become : Span → Status → Ticket → Held
-become span status ticket = record { span = record span { status = status }; ticket = ticket }
+-- a span with another status and rank
+abbrev pub become : Span → Status → Rank → Held
+become span status rank = record { span = record span { status = status }; rank = rank }
 
 -- one of these is the span, and the others begin with other numbers
 pub record HasSpan (span : Span) (xs : List Held) : Type 0 where
@@ -94,44 +94,44 @@ stood : {span : Span} {xs : List Held} (place : HasSpan span xs) (at : At) (s : 
 stood place at s =
     ap (filter_map (at s)) place.before ∙ filter_map-append (at s) place.ahead (place.one ∷ place.behind)
 
--- ys are xs, but that the one span that begins as this one does has another status and ticket
-pub record Changes (span : Span) (status : Status) (ticket : Ticket) (xs ys : List Held) : Type 0 where
+-- ys are xs, but that the one span that begins as this one does has another status and rank
+pub record Changes (span : Span) (status : Status) (rank : Rank) (xs ys : List Held) : Type 0 where
   pub at : HasSpan span xs
-  pub after : ys ≡ at.ahead ++ become span status ticket ∷ at.behind
+  pub after : ys ≡ at.ahead ++ become span status rank ∷ at.behind
 
-module _ (span : Span) (status : Status) (ticket : Ticket) where
+module _ (span : Span) (status : Status) (rank : Rank) where
   -- where the others begin with other numbers, restating changes this one
   pub restated_one : (ahead : List Held) (one : Held) (behind : List Held) → one.span ≡ span
       → AllByRecursion (Other span.first) ahead × AllByRecursion (Other span.first) behind
-      → restated span.first status ticket (ahead ++ one ∷ behind) ≡ ahead ++ become span status ticket ∷ behind
+      → restated span.first status rank (ahead ++ one ∷ behind) ≡ ahead ++ become span status rank ∷ behind
   restated_one ahead one behind is others =
-      map-append (stated span.first status ticket) ahead (one ∷ behind)
-      ∙ (λ i. restated_others span.first status ticket ahead others.0 i
-      ++ (here i ∷ restated_others span.first status ticket behind others.1 i))
+      map-append (stated span.first status rank) ahead (one ∷ behind)
+      ∙ (λ i. restated_others span.first status rank ahead others.0 i
+      ++ (here i ∷ restated_others span.first status rank behind others.1 i))
     where
-      here : stated span.first status ticket one ≡ become span status ticket
-      here = ap (λ b. cond b (become one.span status ticket) one)
-          (eq-eqb one.span.first span.first (ap (λ p. p.first) is)) ∙ ap (λ p. become p status ticket) is
+      here : stated span.first status rank one ≡ become span status rank
+      here = ap (λ b. cond b (become one.span status rank) one)
+          (eq-eqb one.span.first span.first (ap (λ p. p.first) is)) ∙ ap (λ p. become p status rank) is
 
-  module _ {xs ys : List Held} (c : Changes span status ticket xs ys) where
+  module _ {xs ys : List Held} (c : Changes span status rank xs ys) where
     -- that is what restating makes of them
-    changed_restated : ys ≡ restated span.first status ticket xs
+    changed_restated : ys ≡ restated span.first status rank xs
     changed_restated = c.after ∙ sym (restated_one c.at.ahead c.at.one c.at.behind c.at.is c.at.others)
-        ∙ ap (restated span.first status ticket) (sym c.at.before)
+        ∙ ap (restated span.first status rank) (sym c.at.before)
 
     -- the spans are those with this status
     pub changed_spans : spans_of ys ≡ with_status span.first status (spans_of xs)
-    changed_spans = ap spans_of changed_restated ∙ spans_restated span.first status ticket xs
+    changed_spans = ap spans_of changed_restated ∙ spans_restated span.first status rank xs
 
     -- what stands in an order
     pub stands : (at : At) (s : ℕ) → filter_map (at s) ys ≡ filter_map (at s) c.at.ahead
-        ++ cons_option (at s (become span status ticket)) (filter_map (at s) c.at.behind)
+        ++ cons_option (at s (become span status rank)) (filter_map (at s) c.at.behind)
     stands at s = ap (filter_map (at s)) c.after
-        ∙ filter_map-append (at s) c.at.ahead (become span status ticket ∷ c.at.behind)
+        ∙ filter_map-append (at s) c.at.ahead (become span status rank ∷ c.at.behind)
 
     -- it didn't stand there, and does now
-    pub stands_new : (at : At) (s : ℕ) (t : Ticket) → ((h : Held) → h.span ≡ span → at s h ≡ None)
-        → at s (become span status ticket) ≡ Some (t, (s, span.first))
+    pub stands_new : (at : At) (s : ℕ) (t : Rank) → ((h : Held) → h.span ≡ span → at s h ≡ None)
+        → at s (become span status rank) ≡ Some (t, (s, span.first))
         → (filter_map (at s) xs ≡ filter_map (at s) c.at.ahead ++ filter_map (at s) c.at.behind)
         × (filter_map (at s) ys ≡ filter_map (at s) c.at.ahead ++ map (λ x. (t, x)) ((s, span.first) ∷ [])
         ++ filter_map (at s) c.at.behind)
@@ -144,7 +144,7 @@ module _ (span : Span) (status : Status) (ticket : Ticket) where
     )
 
     -- it doesn't stand there
-    pub stands_left : (at : At) (s : ℕ) → Tagged at → at s (become span status ticket) ≡ None → filter_map (at s) ys
+    pub stands_left : (at : At) (s : ℕ) → Tagged at → at s (become span status rank) ≡ None → filter_map (at s) ys
         ≡ filter (λ e. not (is_at s span.first e.1)) (filter_map (at s) xs)
     stands_left at s tagged new =
         stands at s ∙ ap (λ o. filter_map (at s) c.at.ahead ++ cons_option o (filter_map (at s) c.at.behind)) new

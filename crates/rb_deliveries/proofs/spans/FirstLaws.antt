@@ -2,45 +2,45 @@
 use Rattle.std.proofs.Common.{◌≡◌, ℕ, zero, suc, ◌+◌, Bool, true, false, not, ◌&&◌, nat_lt, if◌then◌else◌, ◌⊎◌}
 use Rattle.std.proofs.Common.{inl, inr, slice_get, List, [], ◌∷◌, Option, Some}
 use Rattle.std.proofs.Common.{None, option_map, sym, ap, ◌∙◌, refl, arith}
-use Rattle.rb_deliveries.specs.declared.ticket.Ticket.{Ticket}
+use Rattle.rb_deliveries.specs.declared.rank.Rank.{Rank}
 use Rattle.rb_deliveries.specs.Spans.{how_many_out}
-use Rattle.rb_deliveries.specs.Lanes.{spans_of, lane_held, least, earlier}
+use Rattle.rb_deliveries.specs.Queues.{spans_of, queue_held, least, earlier}
 use Rattle.rb_deliveries.proofs.orders.Line.{sooner, chosen_seen, chosen_one}
-use Rattle.rb_deliveries.proofs.spans.FoundLaws.{lane_how_many_out}
+use Rattle.rb_deliveries.proofs.spans.FoundLaws.{queue_how_many_out}
 use Rattle.rb_deliveries.proofs.orders.CandidateLaws.{candidate, candidates}
-use Rattle.rb_deliveries.specs.declared.ticket.Held.{Held}
+use Rattle.rb_deliveries.specs.declared.rank.Held.{Held}
 use Rattle.rb_deliveries.specs.declared.sub.Sub.{Sub}
 use Rattle.rb_deliveries.specs.Subs.{goes_first, next_to_deliver, first_to_deliver}
 
 -- ---- what the search finds is what the orders say
 
-abbrev pub tagged_to_go : ℕ × Held → Ticket × (ℕ × ℕ)
-tagged_to_go c = (c.1.ticket, (c.0, c.1.span.first))
+abbrev pub tagged_to_go : ℕ × Held → Rank × (ℕ × ℕ)
+tagged_to_go c = (c.1.rank, (c.0, c.1.span.first))
 
 ahead_tagged : (a b : Option (ℕ × Held)) → option_map tagged_to_go (goes_first a b)
     ≡ sooner (option_map tagged_to_go a) (option_map tagged_to_go b)
 ahead_tagged None b = refl
 ahead_tagged (Some a) None = refl
-ahead_tagged (Some a) (Some b) = chosen_seen tagged_to_go (earlier b.1.ticket a.1.ticket) a b
+ahead_tagged (Some a) (Some b) = chosen_seen tagged_to_go (earlier b.1.rank a.1.rank) a b
 
 candidate_by : (s : ℕ) (t : Bool) (o : Option Held)
-    → (if t then option_map (λ h. (h.ticket, (s, h.span.first))) o else None)
+    → (if t then option_map (λ h. (h.rank, (s, h.span.first))) o else None)
     ≡ option_map tagged_to_go (option_map (λ h. (s, h)) (if t then o else None))
 candidate_by s true None = refl
 candidate_by s true (Some h) = refl
 candidate_by s false o = refl
 
 candidate_is : (window batch front s : ℕ) (sub : Sub)
-    → candidate batch front (λ sub. nat_lt (how_many_out (spans_of (lane_held batch front sub.lane))) window) s sub
+    → candidate batch front (λ sub. nat_lt (how_many_out (spans_of (queue_held batch front sub.queue))) window) s sub
     ≡ option_map tagged_to_go (option_map (λ h. (s, h)) (next_to_deliver window batch front sub))
 candidate_is window batch front s sub =
-    ap (λ n. if not sub.closed && nat_lt n window then option_map (λ h. (h.ticket, (s, h.span.first)))
-    (least (lane_held batch front sub.lane)) else None) (lane_how_many_out batch front sub.lane)
-    ∙ candidate_by s (not sub.closed && nat_lt (how_many_out (spans_of sub.lane.held)) window)
-    (least (lane_held batch front sub.lane))
+    ap (λ n. if not sub.closed && nat_lt n window then option_map (λ h. (h.rank, (s, h.span.first)))
+    (least (queue_held batch front sub.queue)) else None) (queue_how_many_out batch front sub.queue)
+    ∙ candidate_by s (not sub.closed && nat_lt (how_many_out (spans_of sub.queue.held)) window)
+    (least (queue_held batch front sub.queue))
 
 pub candidates_are : (window batch front s : ℕ) (subs : List Sub)
-    → candidates batch front (λ sub. nat_lt (how_many_out (spans_of (lane_held batch front sub.lane))) window) s subs
+    → candidates batch front (λ sub. nat_lt (how_many_out (spans_of (queue_held batch front sub.queue))) window) s subs
     ≡ option_map tagged_to_go (first_to_deliver window batch front s subs)
 candidates_are window batch front s [] = refl
 candidates_are window batch front s (sub ∷ rest) =
@@ -51,7 +51,7 @@ candidates_are window batch front s (sub ∷ rest) =
 ahead_one : (a b : Option (ℕ × Held)) (c : ℕ × Held) → goes_first a b ≡ Some c → (a ≡ Some c) ⊎ (b ≡ Some c)
 ahead_one None b c h = inr h
 ahead_one (Some a) None c h = inl h
-ahead_one (Some a) (Some b) c h = chosen_one (earlier b.1.ticket a.1.ticket) a b c h
+ahead_one (Some a) (Some b) c h = chosen_one (earlier b.1.rank a.1.rank) a b c h
 
 pub none_some : {X : Type 0} {c : X} → None ≡ Some c → ⊥
 none_some {X} {c} h = cc
@@ -98,7 +98,7 @@ goes_by_tests false false o h e = absurd (none_some e)
 
 -- it is of an open subscription, and the first in line there
 pub goes_open : (window batch front : ℕ) (sub : Sub) (h : Held) → next_to_deliver window batch front sub ≡ Some h
-    → (sub.closed ≡ false) × (least (lane_held batch front sub.lane) ≡ Some h)
+    → (sub.closed ≡ false) × (least (queue_held batch front sub.queue) ≡ Some h)
 goes_open window batch front sub h e =
-    goes_by_tests sub.closed (nat_lt (how_many_out (spans_of sub.lane.held)) window)
-    (least (lane_held batch front sub.lane)) h e
+    goes_by_tests sub.closed (nat_lt (how_many_out (spans_of sub.queue.held)) window)
+    (least (queue_held batch front sub.queue)) h e

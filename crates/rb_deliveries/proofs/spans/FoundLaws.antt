@@ -1,4 +1,4 @@
--- What is found in a lane: a span in flight was taken before, and a ready one can be delivered.
+-- What is found in a queue: a span in flight was taken before, and a ready one can be delivered.
 use Rattle.std.proofs.Common.{◌≡◌, ℕ, ◌≤◌, Bool, true, false, cond, List, [], ◌∷◌, ◌++◌, length, Option, Some}
 use Rattle.std.proofs.Common.{None, option_map, ◌⊎◌, inl, inr, filter, find, slice_get, append-nil, refl, sym, ap, ◌∙◌}
 use Rattle.std.specs.Option.{option_or}
@@ -6,14 +6,14 @@ use Rattle.std.proofs.lemmas.List.Elements.{filter-append}
 use Rattle.rb_deliveries.specs.declared.span.Span.{Span}
 use Rattle.rb_deliveries.specs.declared.span.Status.{Status}
 use Rattle.rb_deliveries.specs.declared.span.Status.TheVariants.{Ready, InFlight}
-use Rattle.rb_deliveries.specs.declared.ticket.Ticket.{Ticket}
-use Rattle.rb_deliveries.specs.declared.ticket.Held.{Held}
+use Rattle.rb_deliveries.specs.declared.rank.Rank.{Rank}
+use Rattle.rb_deliveries.specs.declared.rank.Held.{Held}
 use Rattle.rb_deliveries.specs.Spans.{cut_spans, first_ready, out_as, how_many_out, is_ready, is_out, is_out_as}
-use Rattle.rb_deliveries.specs.Lanes.{Lane, earlier, with_birth, spans_of, lane_held, lane_spans, least}
-use Rattle.rb_deliveries.specs.Lanes.{better, if_ready}
+use Rattle.rb_deliveries.specs.Queues.{Queue, earlier, with_birth, spans_of, queue_held, queue_spans, least}
+use Rattle.rb_deliveries.specs.Queues.{better, if_ready}
 use Rattle.rb_deliveries.specs.Subs.{IsHeld, IsDeliverable}
 use Rattle.rb_deliveries.proofs.spans.CutLaws.{CutIsFresh, cut_fresh}
-use Rattle.rb_deliveries.proofs.spans.LaneLaws.{lane_spans_is, first_ready_is, first_in_line_is}
+use Rattle.rb_deliveries.proofs.spans.QueueLaws.{queue_spans_is, first_ready_is, first_in_line_is}
 use Rattle.rb_deliveries.proofs.orders.Line.{all_then, chosen_one, filter_none}
 
 -- a span is among these
@@ -44,16 +44,16 @@ out_is_out number (Ready taken) is = is
 out_is_out number (InFlight n moment) is = refl
 
 -- the span that is out as a delivery was taken before, and is out
-pub out_as_held : (number : ℕ) (kept : Lane) (span : Span) → out_as number (spans_of kept.held) ≡ Some span
+pub out_as_held : (number : ℕ) (kept : Queue) (span : Span) → out_as number (spans_of kept.held) ≡ Some span
     → IsHeld kept span × (is_out span.status ≡ true)
 out_as_held number kept span found = let r = found_among (is_out_as number) kept.held span found in
     (r.0, out_is_out number span.status r.1)
 
 module _ (batch front : ℕ) where
   -- how many are out is told by those that were taken before
-  pub lane_how_many_out : (kept : Lane) → how_many_out (lane_spans batch front kept) ≡ how_many_out (spans_of kept.held)
-  lane_how_many_out kept =
-      ap how_many_out (lane_spans_is batch front kept)
+  pub queue_how_many_out : (kept : Queue) → how_many_out (queue_spans batch front kept) ≡ how_many_out (spans_of kept.held)
+  queue_how_many_out kept =
+      ap how_many_out (queue_spans_is batch front kept)
       ∙ ap length (filter-append (λ (p : Span). is_out p.status) (spans_of kept.held) (cut_spans batch kept.next front)
       ∙ ap (λ z. filter (λ (p : Span). is_out p.status) (spans_of kept.held) ++ z)
       (filter_none (λ (p : Span). is_out p.status) (cut_spans batch kept.next front)
@@ -63,8 +63,8 @@ module _ (batch front : ℕ) where
 
 -- ---- what may go
 
--- the first ready span of a lane may go
-pub may_go_first : (batch front : ℕ) (kept : Lane) (span : Span) → first_ready (lane_spans batch front kept) ≡ Some span
+-- the first ready span of a queue may go
+pub may_go_first : (batch front : ℕ) (kept : Queue) (span : Span) → first_ready (queue_spans batch front kept) ≡ Some span
     → IsDeliverable batch front kept span
 may_go_first batch front kept span found =
     by (first_ready (spans_of kept.held)) refl (sym (first_ready_is batch front kept) ∙ found)
@@ -78,7 +78,7 @@ may_go_first batch front kept span found =
 pub better_one : (a b : Option Held) (h : Held) → better a b ≡ Some h → (a ≡ Some h) ⊎ (b ≡ Some h)
 better_one None b h is = inr is
 better_one (Some a) None h is = inl is
-better_one (Some a) (Some b) h is = chosen_one (earlier b.ticket a.ticket) a b h is
+better_one (Some a) (Some b) h is = chosen_one (earlier b.rank a.rank) a b h is
 
 -- the first in line of these is one of them, and ready
 least_among : (xs : List Held) (h : Held) → least xs ≡ Some h → IsAmong xs h.span × (is_ready h.span.status ≡ true)
@@ -102,13 +102,13 @@ least_among (x ∷ xs) h is = by (better_one (if_ready x) (least xs) h is) (leas
     by (inr later) rest = let r = rest later in (among_behind x xs h.span r.0, r.1)
 
 -- the span of a thing in line
-birth_of : (cutting : Ticket) (o : Option Span) (h : Held) → option_map (with_birth cutting) o ≡ Some h → o
+birth_of : (cutting : Rank) (o : Option Span) (h : Held) → option_map (with_birth cutting) o ≡ Some h → o
     ≡ Some h.span
 birth_of cutting None h is = absurd (let none : None ≡ Some h = is in cc)
 birth_of cutting (Some p) h is = let same : with_birth cutting p ≡ h = cc in ap (λ (k : Held). Some k.span) same
 
--- the first in line of a lane may go
-pub may_go_least : (batch front : ℕ) (kept : Lane) (h : Held) → 1 ≤ batch → least (lane_held batch front kept) ≡ Some h
+-- the first in line of a queue may go
+pub may_go_least : (batch front : ℕ) (kept : Queue) (h : Held) → 1 ≤ batch → least (queue_held batch front kept) ≡ Some h
     → IsDeliverable batch front kept h.span
 may_go_least batch front kept h one is =
     by (better_one (least kept.held)

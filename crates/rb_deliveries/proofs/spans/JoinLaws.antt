@@ -1,12 +1,12 @@
 -- Spans that rise: each begins with a number of its own.
 use Rattle.std.proofs.Common.{◌≡◌, ℕ, suc, ◌-◌, ◌<◌, ◌≤◌, ne_eqb, false, ◌==◌, List, [], ◌∷◌, ◌++◌, arith}
 use Rattle.std.specs.List.{AllByRecursion}
-use Rattle.rb_deliveries.specs.declared.ticket.Ticket.{Ticket}
-use Rattle.rb_deliveries.specs.declared.ticket.Held.{Held}
+use Rattle.rb_deliveries.specs.declared.rank.Rank.{Rank}
+use Rattle.rb_deliveries.specs.declared.rank.Held.{Held}
 use Rattle.rb_deliveries.specs.Spans.{cut_spans}
-use Rattle.rb_deliveries.specs.Lanes.{AreRising, Lane, HeldRise, ticketed, lane_held}
+use Rattle.rb_deliveries.specs.Queues.{AreRising, Queue, HeldRise, ranked, queue_held}
 use Rattle.rb_deliveries.proofs.spans.CutLaws.{cut_induction}
-use Rattle.rb_deliveries.proofs.spans.LaneLaws.{joins_reach, rises_earlier}
+use Rattle.rb_deliveries.proofs.spans.QueueLaws.{joins_reach, rises_earlier}
 use Rattle.rb_deliveries.proofs.orders.Line.{all_then, all_second}
 
 -- spans behind spans
@@ -16,18 +16,18 @@ joins_append low mid next [] ys j k = rises_earlier mid low next ys j k
 joins_append low mid next (x ∷ xs) ys j k = (j.0, j.1, joins_append (suc x.span.last) mid next xs ys j.2 k)
 
 -- those of a cutting rise up to the front
-pub joins_cut : (batch front a : ℕ) (cutting : Ticket) → 1 ≤ batch → a ≤ suc front
-    → HeldRise a (ticketed cutting (cut_spans batch a front)) (suc front)
+pub joins_cut : (batch front a : ℕ) (cutting : Rank) → 1 ≤ batch → a ≤ suc front
+    → HeldRise a (ranked cutting (cut_spans batch a front)) (suc front)
 joins_cut batch front a cutting one =
-    cut_induction batch front (λ a spans. a ≤ suc front → HeldRise a (ticketed cutting spans) (suc front)) one
+    cut_induction batch front (λ a spans. a ≤ suc front → HeldRise a (ranked cutting spans) (suc front)) one
     (λ a less h. h)
     (λ a le rest h. (omega arith, omega arith, rest (omega arith)))
     (suc front - a) a (omega arith)
 
--- and so do all spans of a lane
-pub joins_lane : (batch front : ℕ) (kept : Lane) → 1 ≤ batch → kept.next ≤ suc front → AreRising kept
-    → HeldRise 1 (lane_held batch front kept) (suc front)
-joins_lane batch front kept one le j =
+-- and so do all spans of a queue
+pub joins_queue : (batch front : ℕ) (kept : Queue) → 1 ≤ batch → kept.next ≤ suc front → AreRising kept
+    → HeldRise 1 (queue_held batch front kept) (suc front)
+joins_queue batch front kept one le j =
     joins_append 1 kept.next (suc front) kept.held _ j (joins_cut batch front kept.next kept.cutting one le)
 
 -- none begins below the first number, and each ends ahead of the next one

@@ -1,4 +1,4 @@
--- How many spans a cutting has, and how many of a lane's spans are ready.
+-- How many spans a cutting has, and how many of a queue's spans are ready.
 use Rattle.std.proofs.Common.{◌≡◌, ℕ, suc, ◌+◌, ◌-◌, ◌*◌, ◌<◌, ◌≤◌, inl, inr, List, [], ◌∷◌, ◌++◌, length, filter}
 use Rattle.std.proofs.Common.{true, not, refl, sym, ap, ◌∙◌, arith, length-append}
 use Rattle.std.specs.Int.{div_ceil}
@@ -11,11 +11,11 @@ use Rattle.std.proofs.lemmas.List.Filters.{length-filter_both}
 use Rattle.rb_deliveries.specs.declared.span.Span.{Span}
 use Rattle.rb_deliveries.specs.declared.span.Status.{Status}
 use Rattle.rb_deliveries.specs.declared.span.Status.TheVariants.{Ready, InFlight}
-use Rattle.rb_deliveries.specs.declared.ticket.Held.{Held}
-use Rattle.rb_deliveries.specs.Lanes.{HeldRise, Lane, lane_spans, spans_of}
+use Rattle.rb_deliveries.specs.declared.rank.Held.{Held}
+use Rattle.rb_deliveries.specs.Queues.{HeldRise, Queue, queue_spans, spans_of}
 use Rattle.rb_deliveries.specs.Spans.{cut_spans, how_many_out, how_many_ready, is_out, is_ready}
 use Rattle.rb_deliveries.proofs.spans.CutLaws.{CutIsFresh, cut_ends, cut_fresh, cut_induction}
-use Rattle.rb_deliveries.proofs.spans.LaneLaws.{lane_spans_is}
+use Rattle.rb_deliveries.proofs.spans.QueueLaws.{queue_spans_is}
 use Rattle.rb_deliveries.proofs.orders.Line.{all_then, filter_all}
 
 -- ---- a cutting
@@ -76,7 +76,7 @@ cut_length batch a b one =
     let needed = not_less batch n (div_ceil n batch) (length (cut_spans batch a b)) times.0 many.least in
     omega (arith, fits, needed)
 
--- ---- a lane
+-- ---- a queue
 
 -- a span is ready or in flight
 pub ready_or_out : (spans : List Held) → how_many_ready (spans_of spans) + how_many_out (spans_of spans) ≡ length spans
@@ -94,12 +94,12 @@ held_few low next [] rise = omega (arith, rise)
 held_few low next (h ∷ rest) rise =
     let later = held_few (suc h.span.last) next rest rise.2 in omega (arith, later, rise.0, rise.1)
 
-module _ (batch front : ℕ) (kept : Lane) where
+module _ (batch front : ℕ) (kept : Queue) where
   -- those ready were taken before, or are spans of the cutting
-  pub lane_how_many_ready : how_many_ready (lane_spans batch front kept)
+  pub queue_how_many_ready : how_many_ready (queue_spans batch front kept)
       ≡ how_many_ready (spans_of kept.held) + length (cut_spans batch kept.next front)
-  lane_how_many_ready =
-      ap how_many_ready (lane_spans_is batch front kept)
+  queue_how_many_ready =
+      ap how_many_ready (queue_spans_is batch front kept)
       ∙ ap length (filter-append (λ (p : Span). is_ready p.status) (spans_of kept.held)
       (cut_spans batch kept.next front)
       ∙ ap (λ z. filter (λ (p : Span). is_ready p.status) (spans_of kept.held) ++ z)
@@ -116,8 +116,8 @@ module _ (batch front : ℕ) (kept : Lane) where
         let same : fresh ≡ suc front - kept.next = omega (arith, numbers) in
         cuts ∙ ap (λ n. div_ceil n batch) same ∙ sym (cut_length batch kept.next front one)
 
-    pub ready_is : held + cut ≡ how_many_ready (lane_spans batch front kept)
-    ready_is = omega (arith, before, cut_is, lane_how_many_ready)
+    pub ready_is : held + cut ≡ how_many_ready (queue_spans batch front kept)
+    ready_is = omega (arith, before, cut_is, queue_how_many_ready)
 
     pub ready_fits : (most : ℕ) → HeldRise 1 kept.held kept.next → front < most → held < most → held + cut < most
     ready_fits most rise placed fits =

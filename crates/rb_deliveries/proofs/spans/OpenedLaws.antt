@@ -2,23 +2,23 @@
 use Rattle.std.proofs.Common.{◌≡◌, ℕ, zero, suc, ◌+◌, ◌-◌, ◌≤◌, Bool, true, false, cond, List, [], ◌∷◌, ◌++◌}
 use Rattle.std.proofs.Common.{◌<◌, eqb, eq-eqb, Ok, Err, OnOk, OnErr, Result, refl, sym, ap, subst, ◌∙◌, arith}
 use Rattle.std.specs.List.{AllByRecursion}
-use Rattle.rb_deliveries.specs.declared.ticket.Ticket.{Ticket}
-use Rattle.rb_deliveries.specs.declared.ticket.Held.{Held}
-use Rattle.rb_deliveries.specs.Lanes.{HeldRise}
+use Rattle.rb_deliveries.specs.declared.rank.Rank.{Rank}
+use Rattle.rb_deliveries.specs.declared.rank.Held.{Held}
+use Rattle.rb_deliveries.specs.Queues.{HeldRise}
 use Rattle.rb_deliveries.specs.Opening.{opened_held, single_held, singles_held}
 use Rattle.rb_deliveries.specs.Spans.{span_length}
 use Rattle.rb_deliveries.specs.Taken.{NoSpanBegins}
-use Rattle.rb_deliveries.proofs.spans.LaneLaws.{joins_reach, rises_earlier}
+use Rattle.rb_deliveries.proofs.spans.QueueLaws.{joins_reach, rises_earlier}
 
 -- one number more
-pub singles_more : (latest : Ticket) (n count : ℕ) → singles_held latest n (suc count)
+pub singles_more : (latest : Rank) (n count : ℕ) → singles_held latest n (suc count)
     ≡ singles_held latest n count ++ single_held latest (n + count) ∷ []
 singles_more latest n zero = ap (λ m. single_held latest m ∷ []) (omega arith)
 singles_more latest n (suc count) =
     ap (λ hs. single_held latest n ∷ hs) (singles_more latest (suc n) count
     ∙ ap (λ m. singles_held latest (suc n) count ++ single_held latest m ∷ []) (omega arith))
 
-module _ (first : ℕ) (latest : Ticket) where
+module _ (first : ℕ) (latest : Rank) where
   -- what becomes of one span
   abbrev opened : Bool → Held → List Held
   opened b h = cond b (singles_held latest h.span.first (span_length h.span)) (h ∷ [])

@@ -1,15 +1,15 @@
--- A stored span is opened: what that changes in the spans of its lane, in its floor, and in the orders.
+-- A stored span is opened: what that changes in the spans of its queue, in its floor, and in the orders.
 use Rattle.std.proofs.Common.{◌≡◌, ℕ, zero, suc, ◌-◌, ◌<◌, ◌≤◌, eq-eqb, ne_eqb, Bool, true, false, not, ◌==◌, cond}
 use Rattle.std.proofs.Common.{List, [], ◌∷◌, ◌++◌, None, filter, filter_map, append_assoc, refl, sym, ap, ◌∙◌, arith}
 use Rattle.std.specs.List.{AllByRecursion, cons_option}
 use Rattle.std.proofs.lemmas.List.{map-append}
 use Rattle.std.proofs.lemmas.List.Elements.{filter_map-append}
 use Rattle.rb_deliveries.specs.declared.span.Span.{Span}
-use Rattle.rb_deliveries.specs.declared.ticket.Ticket.{Ticket}
-use Rattle.rb_deliveries.specs.declared.ticket.Held.{Held}
+use Rattle.rb_deliveries.specs.declared.rank.Rank.{Rank}
+use Rattle.rb_deliveries.specs.declared.rank.Held.{Held}
 use Rattle.rb_deliveries.specs.Spans.{cut_spans, opened_spans, single_span, singles, span_length}
-use Rattle.rb_deliveries.specs.Lanes.{Lane, HeldRise, floor_before, lane_held, spans_of, ticketed}
-use Rattle.rb_deliveries.specs.Opening.{opened_held, opened_lane, singles_held}
+use Rattle.rb_deliveries.specs.Queues.{Queue, HeldRise, floor_before, queue_held, spans_of, ranked}
+use Rattle.rb_deliveries.specs.Opening.{opened_held, opened_queue, singles_held}
 use Rattle.rb_deliveries.specs.Orders.{ready_at, out_at}
 use Rattle.rb_deliveries.proofs.orders.Line.{all_then}
 use Rattle.rb_deliveries.proofs.orders.OrderLaws.{At, is_at, tagged_out}
@@ -19,13 +19,13 @@ use Rattle.rb_deliveries.proofs.spans.JoinLaws.{Other, joins_begin, joins_cut}
 -- ---- lists
 
 -- the stored numbers are spans of their own
-singles_stored : (latest : Ticket) (n count : ℕ) → spans_of (singles_held latest n count) ≡ singles n count
+singles_stored : (latest : Rank) (n count : ℕ) → spans_of (singles_held latest n count) ≡ singles n count
 singles_stored latest n zero = refl
 singles_stored latest n (suc count) =
     ap (λ (spans : List Span). single_span n ∷ spans) (singles_stored latest (suc n) count)
 
 -- the spans are those with this one opened
-spans_opened : (first : ℕ) (latest : Ticket) (xs : List Held)
+spans_opened : (first : ℕ) (latest : Rank) (xs : List Held)
     → spans_of (opened_held first latest xs) ≡ opened_spans first (spans_of xs)
 spans_opened first latest [] = refl
 spans_opened first latest (h ∷ xs) =
@@ -40,7 +40,7 @@ spans_opened first latest (h ∷ xs) =
     one false = refl
 
 -- those that begin with other numbers stay
-opened_others : (first : ℕ) (latest : Ticket) (xs : List Held) → AllByRecursion (Other first) xs
+opened_others : (first : ℕ) (latest : Rank) (xs : List Held) → AllByRecursion (Other first) xs
     → opened_held first latest xs ≡ xs
 opened_others first latest [] others = refl
 opened_others first latest (h ∷ xs) others =
@@ -48,7 +48,7 @@ opened_others first latest (h ∷ xs) others =
     ++ opened_others first latest xs others.1 i)
 
 -- two lists in a row
-opened_both : (first : ℕ) (latest : Ticket) (xs ys : List Held) → opened_held first latest (xs ++ ys)
+opened_both : (first : ℕ) (latest : Rank) (xs ys : List Held) → opened_held first latest (xs ++ ys)
     ≡ opened_held first latest xs ++ opened_held first latest ys
 opened_both first latest [] ys = refl
 opened_both first latest (h ∷ xs) ys =
@@ -58,7 +58,7 @@ opened_both first latest (h ∷ xs) ys =
     ∙ sym (append_assoc own (opened_held first latest xs) (opened_held first latest ys))
 
 -- the floor stays, since the first number of a span is that of its first one
-pub floor_opened : (low first next : ℕ) (latest : Ticket) (held : List Held) → HeldRise low held next
+pub floor_opened : (low first next : ℕ) (latest : Rank) (held : List Held) → HeldRise low held next
     → floor_before (opened_held first latest held) next ≡ floor_before held next
 floor_opened low first next latest [] j = refl
 floor_opened low first next latest (h ∷ rest) j =
@@ -74,14 +74,14 @@ floor_opened low first next latest (h ∷ rest) j =
     by true = refl
     by false = refl
 
--- ---- a lane
+-- ---- a queue
 
--- of all spans of a lane, a stored one is opened
-pub lane_opened : (batch front first : ℕ) (latest : Ticket) (kept : Lane) → 1 ≤ batch → kept.next ≤ suc front
+-- of all spans of a queue, a stored one is opened
+pub queue_opened : (batch front first : ℕ) (latest : Rank) (kept : Queue) → 1 ≤ batch → kept.next ≤ suc front
     → first < kept.next
-    → lane_held batch front (opened_lane kept first latest) ≡ opened_held first latest (lane_held batch front kept)
-lane_opened batch front first latest kept one le less =
-    let cutting : List Held = ticketed kept.cutting (cut_spans batch kept.next front) in
+    → queue_held batch front (opened_queue kept first latest) ≡ opened_held first latest (queue_held batch front kept)
+queue_opened batch front first latest kept one le less =
+    let cutting : List Held = ranked kept.cutting (cut_spans batch kept.next front) in
     let others : AllByRecursion (Other first) cutting =
     all_then (λ h. kept.next ≤ h.span.first) (Other first) cutting
     (λ h from. ne_eqb h.span.first first (omega (arith, from, less)))
@@ -89,23 +89,23 @@ lane_opened batch front first latest kept one le less =
     ap (λ z. opened_held first latest kept.held ++ z) (sym (opened_others first latest cutting others))
     ∙ sym (opened_both first latest kept.held cutting)
 
--- so all spans of the lane are those with this one opened
-pub lane_spans_opened : (batch front first : ℕ) (latest : Ticket) (kept : Lane) → 1 ≤ batch → kept.next ≤ suc front
-    → first < kept.next → spans_of (lane_held batch front (opened_lane kept first latest))
-    ≡ opened_spans first (spans_of (lane_held batch front kept))
-lane_spans_opened batch front first latest kept one le less =
-    ap spans_of (lane_opened batch front first latest kept one le less)
-    ∙ spans_opened first latest (lane_held batch front kept)
+-- so all spans of the queue are those with this one opened
+pub queue_spans_opened : (batch front first : ℕ) (latest : Rank) (kept : Queue) → 1 ≤ batch → kept.next ≤ suc front
+    → first < kept.next → spans_of (queue_held batch front (opened_queue kept first latest))
+    ≡ opened_spans first (spans_of (queue_held batch front kept))
+queue_spans_opened batch front first latest kept one le less =
+    ap spans_of (queue_opened batch front first latest kept one le less)
+    ∙ spans_opened first latest (queue_held batch front kept)
 
 -- ---- what stands in an order
 
 -- no opened number is in flight
-singles_not_out : (s : ℕ) (latest : Ticket) (n count : ℕ) → filter_map (out_at s) (singles_held latest n count) ≡ []
+singles_not_out : (s : ℕ) (latest : Rank) (n count : ℕ) → filter_map (out_at s) (singles_held latest n count) ≡ []
 singles_not_out s latest n zero = refl
 singles_not_out s latest n (suc count) = singles_not_out s latest (suc n) count
 
 -- xs has one span that begins as this one does, and zs are the others
-module _ (span : Span) (latest : Ticket) {xs zs : List Held} (r : Removes span xs zs) where
+module _ (span : Span) (latest : Rank) {xs zs : List Held} (r : Removes span xs zs) where
   abbrev own : List Held
   own = singles_held latest span.first (span_length span)
 

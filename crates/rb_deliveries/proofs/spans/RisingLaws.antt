@@ -2,12 +2,12 @@
 use Rattle.std.proofs.Common.{◌≡◌, ℕ, suc, ◌-◌, ◌≤◌, ◌++◌, Bool, true, false, cond, List, [], ◌∷◌, sym, subst, arith}
 use Rattle.rb_deliveries.specs.declared.span.Span.{Span}
 use Rattle.rb_deliveries.specs.declared.sub.Sub.{Sub}
-use Rattle.rb_deliveries.specs.declared.ticket.Held.{Held}
-use Rattle.rb_deliveries.specs.Lanes.{AreRising, HeldRise, Lane, floor_before, lane_floor, lane_held, spans_of}
+use Rattle.rb_deliveries.specs.declared.rank.Held.{Held}
+use Rattle.rb_deliveries.specs.Queues.{AreRising, HeldRise, Queue, floor_before, queue_floor, queue_held, spans_of}
 use Rattle.rb_deliveries.specs.Spans.{SpansRise, cut_spans}
 use Rattle.rb_deliveries.specs.Subs.{Belongs, sub_held}
 use Rattle.rb_deliveries.proofs.spans.CutLaws.{cut_induction}
-use Rattle.rb_deliveries.proofs.spans.LaneLaws.{lane_spans_is}
+use Rattle.rb_deliveries.proofs.spans.QueueLaws.{queue_spans_is}
 
 -- spans that rise from a number rise from a lower one
 pub rise_lower : (low low' high : ℕ) (spans : List Span) → low ≤ low' → SpansRise low' spans high
@@ -41,10 +41,10 @@ from_floor batch front next (p ∷ rest) one le h =
     (omega (arith, h.0), h.1, stored_rise batch (suc p.span.last) front next rest one le h.2)
 
 pub open_rises : (batch front turn number : ℕ) (sub : Sub) → 1 ≤ batch → Belongs front turn number sub
-    → AreRising sub.lane → sub.closed ≡ false
-    → SpansRise (suc (lane_floor sub.lane)) (spans_of (sub_held batch front sub)) front
+    → AreRising sub.queue → sub.closed ≡ false
+    → SpansRise (suc (queue_floor sub.queue)) (spans_of (sub_held batch front sub)) front
 open_rises batch front turn number sub one own h is =
     subst
-    (λ (b : Bool). SpansRise (suc (lane_floor sub.lane)) (spans_of (cond b [] (lane_held batch front sub.lane))) front)
+    (λ (b : Bool). SpansRise (suc (queue_floor sub.queue)) (spans_of (cond b [] (queue_held batch front sub.queue))) front)
     (sym is)
-    (rw (lane_spans_is batch front sub.lane) (from_floor batch front sub.lane.next sub.lane.held one own.is_next h))
+    (rw (queue_spans_is batch front sub.queue) (from_floor batch front sub.queue.next sub.queue.held one own.is_next h))

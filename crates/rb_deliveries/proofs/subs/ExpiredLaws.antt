@@ -4,8 +4,8 @@ use Rattle.std.proofs.Common.{arith}
 use Rattle.std.specs.Prelude.{⊤}
 use Rattle.std.specs.List.{AllByRecursion}
 use Rattle.rb_deliveries.specs.Expiry.{turns_from, by_number, expired_held, expired_sub}
-use Rattle.rb_deliveries.specs.declared.ticket.Ticket.{Ticket}
-use Rattle.rb_deliveries.specs.declared.ticket.Held.{Held}
+use Rattle.rb_deliveries.specs.declared.rank.Rank.{Rank}
+use Rattle.rb_deliveries.specs.declared.rank.Held.{Held}
 use Rattle.rb_deliveries.specs.declared.span.Status.{Status}
 use Rattle.rb_deliveries.specs.declared.span.Status.TheVariants.{Ready, InFlight}
 use Rattle.rb_deliveries.specs.declared.sub.Sub.{Sub}
@@ -20,7 +20,7 @@ Numbered D timeout clock (Ready taken) = ⊤
 Numbered D timeout clock (InFlight number moment) = nat_le timeout (clock - moment) ≡ true → D number
 
 abbrev pub AllNumbered : (ℕ → Type 0) → ℕ → ℕ → Sub → Type 0
-AllNumbered D timeout clock sub = AllByRecursion (λ h. Numbered D timeout clock h.span.status) sub.lane.held
+AllNumbered D timeout clock sub = AllByRecursion (λ h. Numbered D timeout clock h.span.status) sub.queue.held
 
 -- a number that was given, for one
 pub given_numbered : (front turn number timeout clock : ℕ) (subs : List Sub)
@@ -29,7 +29,7 @@ pub given_numbered : (front turn number timeout clock : ℕ) (subs : List Sub)
 given_numbered front turn number timeout clock subs =
     all_then (Belongs front turn number) (AllNumbered (λ n. n < number) timeout clock) subs
     (λ sub b. all_then (IsKnown front turn number) (λ h. Numbered (λ n. n < number) timeout clock h.span.status)
-    sub.lane.held (λ h known. by h.span.status known.2) b.are_known)
+    sub.queue.held (λ h known. by h.span.status known.2) b.are_known)
   where
     by : (status : Status) → IsGiven number status → Numbered (λ n. n < number) timeout clock status
     by (Ready taken) given = tt
@@ -37,8 +37,8 @@ given_numbered front turn number timeout clock subs =
 
 -- ---- what stays so
 
--- what belongs to a desk does after it, where the turns go on so far that the new tickets are drawn
-pub belongs_expired : (front turn turn' number timeout clock : ℕ) (D : ℕ → Type 0) (tk : ℕ → Ticket) (subs : List Sub)
+-- what belongs to a desk does after it, where the turns go on so far that the new ranks are drawn
+pub belongs_expired : (front turn turn' number timeout clock : ℕ) (D : ℕ → Type 0) (tk : ℕ → Rank) (subs : List Sub)
     → turn ≤ turn' → ((n : ℕ) → D n → IsDrawn front turn' (tk n)) → AllByRecursion (Belongs front turn number) subs
     → AllByRecursion (AllNumbered D timeout clock) subs
     → AllByRecursion (Belongs front turn' number) (map (expired_sub timeout clock (by_number tk)) subs)
@@ -51,7 +51,7 @@ belongs_expired front turn turn' number timeout clock D tk (sub ∷ subs) le dra
     known x k n = by x.span.status k n
       where
         in_state : Status → Held
-        in_state status = record { span = record x.span { status = status }; ticket = x.ticket }
+        in_state status = record { span = record x.span { status = status }; rank = x.rank }
 
         by : (status : Status) → IsKnown front turn number (in_state status) → Numbered D timeout clock status
             → IsKnown front turn' number (expired_held timeout clock (by_number tk) (in_state status))
@@ -60,7 +60,7 @@ belongs_expired front turn turn' number timeout clock D tk (sub ∷ subs) le dra
           where
             either_known : (t : Bool) → (t ≡ true → D n)
                 → IsKnown front turn' number
-                (cond t (record { span = record x.span { status = Ready true }; ticket = tk n })
+                (cond t (record { span = record x.span { status = Ready true }; rank = tk n })
                 (in_state (InFlight n moment)))
             either_known true num = (refl, drawn n (num refl), tt)
             either_known false num = (k.0, (k.1.0, omega (arith, k.1.1)), k.2)
@@ -71,12 +71,12 @@ belongs_expired front turn turn' number timeout clock D tk (sub ∷ subs) le dra
     all_known [] h num = tt
     all_known (x ∷ held) h num = (known x h.0 num.0, all_known held h.1 num.1)
 
-    open_known : (c : Bool) → AllByRecursion (IsKnown front turn number) sub.lane.held
+    open_known : (c : Bool) → AllByRecursion (IsKnown front turn number) sub.queue.held
         → AllByRecursion (IsKnown front turn' number)
-        (cond c sub.lane.held (map (expired_held timeout clock (by_number tk)) sub.lane.held))
-    open_known true h = all_then (IsKnown front turn number) (IsKnown front turn' number) sub.lane.held
+        (cond c sub.queue.held (map (expired_held timeout clock (by_number tk)) sub.queue.held))
+    open_known true h = all_then (IsKnown front turn number) (IsKnown front turn' number) sub.queue.held
         (λ h k. (k.0, (k.1.0, omega (arith, le, k.1.1)), k.2)) h
-    open_known false h = all_known sub.lane.held h num.0
+    open_known false h = all_known sub.queue.held h num.0
 
     each : Belongs front turn number sub → Belongs front turn' number (expired_sub timeout clock (by_number tk) sub)
     each b = record {

@@ -1,4 +1,4 @@
--- What agrees with the front, the turns and the deliveries: its tickets are before the next one, and it still agrees
+-- What agrees with the front, the turns and the deliveries: its ranks are before the next one, and it still agrees
 -- after a call.
 use Rattle.std.proofs.Common.{◌≡◌, ℕ, zero, suc, max, ◌≤◌, Bool, true, false, not, ◌==◌, cond, List, [], ◌∷◌}
 use Rattle.std.proofs.Common.{Some, None, map, nat_le, slice_get, slice_set, refl, ap, subst, arith}
@@ -8,12 +8,12 @@ use Rattle.std.proofs.lemmas.List.{length-map, length-set}
 use Rattle.rb_deliveries.specs.declared.span.Span.{Span}
 use Rattle.rb_deliveries.specs.declared.span.Status.{Status}
 use Rattle.rb_deliveries.specs.declared.span.Status.TheVariants.{Ready, InFlight}
-use Rattle.rb_deliveries.specs.declared.ticket.Ticket.{Ticket}
-use Rattle.rb_deliveries.specs.declared.ticket.Held.{Held}
+use Rattle.rb_deliveries.specs.declared.rank.Rank.{Rank}
+use Rattle.rb_deliveries.specs.declared.rank.Held.{Held}
 use Rattle.rb_deliveries.specs.declared.sub.Sub.{Sub}
 use Rattle.rb_deliveries.specs.Spans.{is_fresh}
-use Rattle.rb_deliveries.specs.Lanes.{earlier, birth, lane_held, restated}
-use Rattle.rb_deliveries.specs.Lanes.{restated_lane, pushed_lane}
+use Rattle.rb_deliveries.specs.Queues.{earlier, birth, queue_held, restated}
+use Rattle.rb_deliveries.specs.Queues.{restated_queue, pushed_queue}
 use Rattle.rb_deliveries.specs.Subs.{sub_held, IsDrawn, IsGiven, IsKnown, Belongs, delivered_sub, returned_sub}
 use Rattle.rb_deliveries.specs.Subs.{settled_sub}
 use Rattle.rb_deliveries.proofs.orders.Line.{all_both, all_filter, all_then}
@@ -40,15 +40,15 @@ few_set xs i x few = omega (arith, few, length-set xs i x)
 pub few_map : {A B : Type 0} {most : ℕ} (xs : List A) (f : A → B) → length xs ≤ most → length (map f xs) ≤ most
 few_map xs f few = omega (arith, few, length-map xs f)
 
--- ---- earlier tickets
+-- ---- earlier ranks
 
--- a drawn ticket is earlier than that of the next turn
-pub drawn_before : (front turn : ℕ) (t : Ticket) → IsDrawn front turn t
+-- a drawn rank is earlier than that of the next turn
+pub drawn_before : (front turn : ℕ) (t : Rank) → IsDrawn front turn t
     → earlier t (record { front = front; turn = suc turn }) ≡ true
 drawn_before front turn t drawn = let f = drawn.0 in let n = drawn.1 in grind arith
 
--- the ticket of a span never taken was drawn, where its first number is placed
-pub known_birth_drawn : (front turn first : ℕ) (cutting : Ticket) → IsDrawn front turn cutting → first ≤ front
+-- the rank of a span never taken was drawn, where its first number is placed
+pub known_birth_drawn : (front turn first : ℕ) (cutting : Rank) → IsDrawn front turn cutting → first ≤ front
     → IsDrawn front turn (birth cutting first)
 known_birth_drawn front turn first cutting drawn le = by (nat_le first cutting.front)
   where
@@ -56,10 +56,10 @@ known_birth_drawn front turn first cutting drawn le = by (nat_le first cutting.f
     by true = drawn
     by false = (le, omega arith)
 
--- an open subscription has the spans of its lane
+-- an open subscription has the spans of its queue
 pub held_open : (batch front : ℕ) (sub : Sub) → sub.closed ≡ false → sub_held batch front sub
-    ≡ lane_held batch front sub.lane
-held_open batch front sub is = ap (λ b. cond b [] (lane_held batch front sub.lane)) is
+    ≡ queue_held batch front sub.queue
+held_open batch front sub is = ap (λ b. cond b [] (queue_held batch front sub.queue)) is
 
 -- ---- after a call
 
@@ -79,21 +79,21 @@ known_belongs_later front turn turn' number number' sub t n b = record {
   is_offered = b.is_offered;
   is_next = b.is_next;
   is_drawn = (b.is_drawn.0, omega (arith, b.is_drawn.1, t));
-  are_known = all_then (IsKnown front turn number) (IsKnown front turn' number') sub.lane.held
+  are_known = all_then (IsKnown front turn number) (IsKnown front turn' number') sub.queue.held
       (λ h known. known_later front turn turn' number number' h t n known) b.are_known;
 }
 
 module _ (front turn number : ℕ) where
-  -- a span that becomes so is known, where its status and its ticket are
-  known_restated : (first : ℕ) (status : Status) (ticket : Ticket) (xs : List Held) → is_fresh status ≡ false
-      → IsDrawn front turn ticket → IsGiven number status → AllByRecursion (IsKnown front turn number) xs
-      → AllByRecursion (IsKnown front turn number) (restated first status ticket xs)
-  known_restated first status ticket [] taken drawn given known = tt
-  known_restated first status ticket (h ∷ xs) taken drawn given known =
-      (one (h.span.first == first), known_restated first status ticket xs taken drawn given known.1)
+  -- a span that becomes so is known, where its status and its rank are
+  known_restated : (first : ℕ) (status : Status) (rank : Rank) (xs : List Held) → is_fresh status ≡ false
+      → IsDrawn front turn rank → IsGiven number status → AllByRecursion (IsKnown front turn number) xs
+      → AllByRecursion (IsKnown front turn number) (restated first status rank xs)
+  known_restated first status rank [] taken drawn given known = tt
+  known_restated first status rank (h ∷ xs) taken drawn given known =
+      (one (h.span.first == first), known_restated first status rank xs taken drawn given known.1)
     where
       one : (b : Bool) → IsKnown front turn number
-          (cond b (record { span = record h.span { status = status }; ticket = ticket }) h)
+          (cond b (record { span = record h.span { status = status }; rank = rank }) h)
       one true = (taken, drawn, given)
       one false = known.0
 
@@ -101,7 +101,7 @@ module _ (front turn number : ℕ) where
   -- a subscription belongs after a span was handed over
   pub sub_handed : (sub : Sub) (span : Span) (clock : ℕ) → span.last ≤ front → Belongs front turn number sub
       → Belongs front turn (suc number) (delivered_sub sub span number clock)
-  sub_handed sub span clock le b = by (span.first == sub.lane.next)
+  sub_handed sub span clock le b = by (span.first == sub.queue.next)
     where
       later : Belongs front turn (suc number) sub
       later = known_belongs_later front turn turn number (suc number) sub (omega arith) (omega arith) b
@@ -109,23 +109,23 @@ module _ (front turn number : ℕ) where
       by : (t : Bool) → Belongs front turn (suc number)
           (record sub {
             offered = max sub.offered span.last;
-            lane = cond t (pushed_lane sub.lane span (InFlight number clock))
-                (restated_lane sub.lane span.first (InFlight number clock) sub.lane.cutting);
+            queue = cond t (pushed_queue sub.queue span (InFlight number clock))
+                (restated_queue sub.queue span.first (InFlight number clock) sub.queue.cutting);
           })
       by true = record {
         is_offered = omega (arith, b.is_offered, le);
         is_next = omega (arith, le);
         is_drawn = b.is_drawn;
-        are_known = all_both (IsKnown front turn (suc number)) sub.lane.held
-            (record { span = record span { status = InFlight number clock }; ticket = sub.lane.cutting } ∷ [])
+        are_known = all_both (IsKnown front turn (suc number)) sub.queue.held
+            (record { span = record span { status = InFlight number clock }; rank = sub.queue.cutting } ∷ [])
             later.are_known ((refl, b.is_drawn, omega arith), tt);
       }
       by false = record {
         is_offered = omega (arith, b.is_offered, le);
         is_next = b.is_next;
         is_drawn = b.is_drawn;
-        are_known = known_restated front turn (suc number) span.first (InFlight number clock) sub.lane.cutting
-            sub.lane.held refl b.is_drawn (omega arith) later.are_known;
+        are_known = known_restated front turn (suc number) span.first (InFlight number clock) sub.queue.cutting
+            sub.queue.held refl b.is_drawn (omega arith) later.are_known;
       }
 
   -- after one went back
@@ -138,7 +138,7 @@ module _ (front turn number : ℕ) where
         is_next = later.is_next;
         is_drawn = later.is_drawn;
         are_known = known_restated front (suc turn) number first (Ready true)
-            (record { front = front; turn = suc turn }) sub.lane.held refl (omega arith, omega arith) tt
+            (record { front = front; turn = suc turn }) sub.queue.held refl (omega arith, omega arith) tt
             later.are_known;
       }
 
@@ -149,5 +149,5 @@ module _ (front turn number : ℕ) where
     is_offered = b.is_offered;
     is_next = b.is_next;
     is_drawn = b.is_drawn;
-    are_known = all_filter (IsKnown front turn number) (λ h. not (h.span.first == first)) sub.lane.held b.are_known;
+    are_known = all_filter (IsKnown front turn number) (λ h. not (h.span.first == first)) sub.queue.held b.are_known;
   }

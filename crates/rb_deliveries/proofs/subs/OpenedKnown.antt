@@ -2,19 +2,19 @@
 -- a turn was drawn for each number that is placed.
 use Rattle.std.proofs.Common.{ℕ, zero, suc, ◌+◌, ◌<◌, ◌≤◌, Bool, true, false, ◌==◌, cond, List, [], ◌∷◌, refl, arith}
 use Rattle.std.specs.List.{AllByRecursion}
-use Rattle.rb_deliveries.specs.declared.ticket.Ticket.{Ticket}
-use Rattle.rb_deliveries.specs.declared.ticket.Held.{Held}
+use Rattle.rb_deliveries.specs.declared.rank.Rank.{Rank}
+use Rattle.rb_deliveries.specs.declared.rank.Held.{Held}
 use Rattle.rb_deliveries.specs.declared.sub.Sub.{Sub}
 use Rattle.rb_deliveries.specs.Spans.{span_length}
-use Rattle.rb_deliveries.specs.Lanes.{AreRising, HeldRise}
+use Rattle.rb_deliveries.specs.Queues.{AreRising, HeldRise}
 use Rattle.rb_deliveries.specs.Opening.{IsLatestAt, opened_held, opened_sub, singles_held}
 use Rattle.rb_deliveries.specs.Subs.{Belongs, IsDrawn, IsKnown}
 use Rattle.rb_deliveries.proofs.orders.Line.{all_both, all_then}
-use Rattle.rb_deliveries.proofs.spans.LaneLaws.{joins_reach}
+use Rattle.rb_deliveries.proofs.spans.QueueLaws.{joins_reach}
 use Rattle.rb_deliveries.proofs.subs.KnownLaws.{all_get, known_belongs_later}
 
 module _ (front turn number : ℕ) where
-  abbrev latest : Ticket
+  abbrev latest : Rank
   latest = record { front = front; turn = turn }
 
   -- the last number placed has the last turn
@@ -41,7 +41,7 @@ module _ (front turn number : ℕ) where
       by false = (known.0, tt)
 
   -- a subscription belongs after a span of it was opened
-  pub sub_opened : (sub : Sub) (first : ℕ) → Belongs front turn number sub → AreRising sub.lane
+  pub sub_opened : (sub : Sub) (first : ℕ) → Belongs front turn number sub → AreRising sub.queue
       → Belongs front (turn + front) number (opened_sub sub first latest)
   sub_opened sub first b j =
       let later = known_belongs_later front turn (turn + front) number number sub (omega arith) (omega arith) b in
@@ -49,16 +49,16 @@ module _ (front turn number : ℕ) where
         is_offered = later.is_offered;
         is_next = later.is_next;
         is_drawn = later.is_drawn;
-        are_known = known_opened first 1 sub.lane.next sub.lane.held j later.is_next later.are_known;
+        are_known = known_opened first 1 sub.queue.next sub.queue.held j later.is_next later.are_known;
       }
 
-  -- where a turn is left for each number placed, this ticket is the latest
+  -- where a turn is left for each number placed, this rank is the latest
   pub latest_at : (s : ℕ) (subs : List Sub) → AllByRecursion (Belongs front turn number) subs
       → turn + front < 18446744073709551616 → IsLatestAt subs s latest
   latest_at s subs belong left sub found =
       let b = all_get (Belongs front turn number) subs s sub belong found in
       record {
-        drawn = all_then (IsKnown front turn number) (λ h. IsDrawn front turn h.ticket) sub.lane.held
+        drawn = all_then (IsKnown front turn number) (λ h. IsDrawn front turn h.rank) sub.queue.held
             (λ h known. known.1) b.are_known;
         turns = omega (arith, left, b.is_next);
       }

@@ -27,7 +27,7 @@ fn has(rt: &impl Abort, alloc: Global, changeset: &Changeset, want: &[u8]) -> Re
 fn refused<T: Drop>(rt: &impl Abort, answer: Result<T, GroupError>) {
     match answer {
         Ok(_) => panic!(rt; "nothing clashes"),
-        Err(error) => assert_eq!(rt; error, GroupError::Schema { section: 0 }),
+        Err(error) => assert_eq!(rt; error, GroupError::Clash { section: 0 }),
     }
 }
 

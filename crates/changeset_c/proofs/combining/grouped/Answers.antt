@@ -5,18 +5,18 @@ use Rattle.cs_group.specs.Group.{first_clash}
 use Rattle.changeset_c.proofs.CombineLaws.{add_cut, add_next, sections_next}
 use Rattle.changeset_c.proofs.combining.grouped.Goals as goal
 
-pub returns-in-Err-Schema-clause-refused : goal.returns-in-Err-Schema-clause-refused
-returns-in-Err-Schema-clause-refused c =
+pub returns-in-Err-Clash-clause-refused : goal.returns-in-Err-Clash-clause-refused
+returns-in-Err-Clash-clause-refused c =
     let all = c.args.changesets.now in
     let i = c.loop-text.text in
     let one = c.index-changesets-text.result in
-    rw c.in-Err-Schema.field-0-is
-    (add_cut all i one c.in-Err-Schema.section c.loop-text-test.true
+    rw c.in-Err-Clash.field-0-is
+    (add_cut all i one c.in-Err-Clash.section c.loop-text-test.true
     (drop_more all i one c.loop-text-test.true ∙ ap (λ s. s ∷ drop (i + 1) all) (sym c.index-changesets-text.is))
     c.loop-text.invariant.fits
     (ap (λ ss. first_clash ss one) (sym c.loop-text.invariant.added)
-    ∙ subst (λ e. ReportsClash e (first_clash c.loop-text.group one)) c.in-Err-Schema.field-0-is
-    c.in-Err-Schema.ensures.refused))
+    ∙ subst (λ e. ReportsClash e (first_clash c.loop-text.group one)) c.in-Err-Clash.field-0-is
+    c.in-Err-Clash.ensures.refused))
 
 pub loop-text-preserved : goal.loop-text-preserved
 loop-text-preserved c =

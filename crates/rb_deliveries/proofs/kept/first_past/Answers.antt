@@ -14,16 +14,16 @@ pub returns-then-timeout-saturating_sub : goal.returns-then-timeout-saturating_s
 returns-then-timeout-saturating_sub c =
     let least = subst (IsLeast 0 c.args.moments.now) (sym (sym c.in_ok-winner.was ∙ c.winner.ensures))
     (winner_is_least 0 c.args.moments.now) in (
-      c.in_ok-winner.winner.ticket,
+      c.in_ok-winner.winner.rank,
       ap (slice_get c.args.moments.now) (let e : c.in_ok-winner.winner.place ≡ least.0 = omega (arith, least.1) in e)
           ∙ least.2,
-      le-leb c.args.timeout (c.args.clock - c.in_ok-winner.winner.ticket.front)
+      le-leb c.args.timeout (c.args.clock - c.in_ok-winner.winner.rank.front)
           (omega (arith, c.if-timeout-saturating_sub.true, c.saturating_sub.ensures)),
     )
 
 pub returns : goal.returns
 returns c =
-    let w = c.in_ok-winner.winner.ticket in
+    let w = c.in_ok-winner.winner.rank in
     let least = subst (IsLeast 0 c.args.moments.now) (sym (sym c.in_ok-winner.was ∙ c.winner.ensures))
     (winner_is_least 0 c.args.moments.now) in
     let yet = lt-leb c.args.timeout (c.args.clock - w.front)

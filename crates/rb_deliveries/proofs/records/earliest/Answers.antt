@@ -13,14 +13,14 @@ loop-preserved c =
     let out = nth_list 1 lanes.first in
     let key = c.in-Some.key in
     let P = λ (before : List ℕ). c.loop.first ≡ waiting.earliest (map (held_under lanes.slots) before) in
-    let Q = λ (before : List ℕ). c.first_ticket-first.result ≡ waiting.earliest (map (held_under lanes.slots) before) in
+    let Q = λ (before : List ℕ). c.first_rank-first.result ≡ waiting.earliest (map (held_under lanes.slots) before) in
     let some = out_some lanes.slots (nth_list 0 lanes.first) out (nth_list 0 lanes.second) c.requires.0.listed key
     (walk_has P out c.loop.counter c.loop.at key c.loop.invariant c.in-Some.is) in
     let moment = if_some_held (λ h. c.moment_at.result ≡ waiting.moment_of h.span.status)
     (get_or lanes.slots key None) some c.moment_at.ensures in
     walk_goes P out c.loop.counter Q lanes.first 1 c.loop.at c.next-at.result key (out_there lanes c.requires.0)
     c.loop.invariant c.in-Some.is c.next-at.ensures (λ before so_far.
-    c.first_ticket-first.ensures ∙ (λ i. waiting.first_ticket (so_far i) (moment i))
+    c.first_rank-first.ensures ∙ (λ i. waiting.first_rank (so_far i) (moment i))
     ∙ sym (earliest_more lanes.slots before key))
 
 pub returns : goal.returns

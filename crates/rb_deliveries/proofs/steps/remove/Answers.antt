@@ -1,6 +1,6 @@
 use Rattle.std.proofs.Common.{◌∙◌, ap, length, sym}
 use Rattle.link_lists.specs.Lanes.{Lanes}
-use Rattle.rb_deliveries.specs.declared.ticket.Held.{Held}
+use Rattle.rb_deliveries.specs.declared.rank.Held.{Held}
 use Rattle.rb_deliveries.specs.Taken.{held_in, nth_list}
 use Rattle.rb_deliveries.proofs.lists.MoveLaws.{free_first, free_second, left_held, left_records, left_same}
 use Rattle.rb_deliveries.proofs.lists.RestateLaws.{begins_one, without_absent, without_keys}

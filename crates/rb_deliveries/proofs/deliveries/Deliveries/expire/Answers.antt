@@ -6,7 +6,7 @@ use Rattle.rb_deliveries.proofs.deliveries.Deliveries.expire.Goals as goal
 pub invariant_of-self : goal.invariant_of-self
 invariant_of-self c =
     expired_kept c.self.invariant c.self.inside.subs.window c.rise.ensures c.args.timeout c.args.clock
-    c.latest_ticket-latest.result c.expire-many.new.self (rw (← c.self.view_is) at c.latest_ticket-latest.ensures)
+    c.latest_rank-latest.result c.expire-many.new.self (rw (← c.self.view_is) at c.latest_rank-latest.ensures)
     c.expire-many.ensures.kept
 
 pub returns-clause-many : goal.returns-clause-many
@@ -20,5 +20,5 @@ pub returns-clause-picture : goal.returns-clause-picture
 returns-clause-picture c =
     rw (← c.self.view_is)
     (expired_seen c.self.invariant c.self.inside.subs.window c.rise.ensures c.args.timeout c.args.clock
-    c.latest_ticket-latest.result c.expire-many.new.self (rw (← c.self.view_is) at c.latest_ticket-latest.ensures)
+    c.latest_rank-latest.result c.expire-many.new.self (rw (← c.self.view_is) at c.latest_rank-latest.ensures)
     c.expire-many.ensures.kept)

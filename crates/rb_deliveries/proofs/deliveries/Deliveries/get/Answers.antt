@@ -1,6 +1,6 @@
 use Rattle.std.proofs.Common.{suc, ◌∙◌, sym, ap, subst}
 use Rattle.rb_deliveries.specs.declared.sub.Sub.{Sub}
-use Rattle.rb_deliveries.specs.Lanes.{AreRising}
+use Rattle.rb_deliveries.specs.Queues.{AreRising}
 use Rattle.rb_deliveries.specs.Picture.{Subscription}
 use Rattle.rb_deliveries.specs.Spans.{SpansRise}
 use Rattle.rb_deliveries.specs.Subs.{Belongs}
@@ -17,5 +17,5 @@ returns-clause-rising c is =
     (rw (← c.self.view_is)
     (open_rises d.batch d.front d.turn d.next_delivery sub c.self.invariant.batch_is.0
     (all_get (Belongs d.front d.turn d.next_delivery) d.subs.subs c.args.s sub c.self.invariant.belong found)
-    (all_get (λ (sub : Sub). AreRising sub.lane) d.subs.subs c.args.s sub c.rise.ensures found)
+    (all_get (λ (sub : Sub). AreRising sub.queue) d.subs.subs c.args.s sub c.rise.ensures found)
     (ap (λ (q : Subscription). q.closed) (sym c.of.ensures) ∙ is)))

@@ -5,15 +5,15 @@ use Rattle.rb_deliveries.proofs.deliveries.Deliveries.nack_opened.Goals as goal
 pub invariant_of-self-2 : goal.invariant_of-self-2
 invariant_of-self-2 c =
     (opens c.self.invariant c.self.inside.subs.window c.rise.ensures c.args.s c.args.span
-    c.latest_ticket-latest.result c.open_up.new.self (rw (← c.self.view_is) at c.requires.out)
-    (rw (← c.self.view_is) at c.latest_ticket-latest.ensures) c.in_ok-open_up.ensures.ok).0
+    c.latest_rank-latest.result c.open_up.new.self (rw (← c.self.view_is) at c.requires.out)
+    (rw (← c.self.view_is) at c.latest_rank-latest.ensures) c.in_ok-open_up.ensures.ok).0
 
 pub returns-clause-ok : goal.returns-clause-ok
 returns-clause-ok c =
     rw (← c.self.view_is)
     (opens c.self.invariant c.self.inside.subs.window c.rise.ensures c.args.s c.args.span
-    c.latest_ticket-latest.result c.open_up.new.self (rw (← c.self.view_is) at c.requires.out)
-    (rw (← c.self.view_is) at c.latest_ticket-latest.ensures) c.in_ok-open_up.ensures.ok).1
+    c.latest_rank-latest.result c.open_up.new.self (rw (← c.self.view_is) at c.requires.out)
+    (rw (← c.self.view_is) at c.latest_rank-latest.ensures) c.in_ok-open_up.ensures.ok).1
 
 pub overflow_sub-result : goal.overflow_sub-result
 overflow_sub-result c =

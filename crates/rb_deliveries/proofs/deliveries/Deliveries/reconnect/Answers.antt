@@ -9,12 +9,12 @@ reconnect-requires-clause-cursor c =
 pub invariant_of-self : goal.invariant_of-self
 invariant_of-self c =
     (reconnects c.self.invariant c.self.inside.subs.window c.args.s c.args.cursor c.args.link
-    c.next_ticket-ticket.result c.reconnect.new.self (rw (← c.self.view_is) at c.requires.may)
-    (rw (← c.self.view_is) at c.next_ticket-ticket.ensures) c.reconnect.ensures).0
+    c.next_rank-rank.result c.reconnect.new.self (rw (← c.self.view_is) at c.requires.may)
+    (rw (← c.self.view_is) at c.next_rank-rank.ensures) c.reconnect.ensures).0
 
 pub returns : goal.returns
 returns c =
     rw (← c.self.view_is)
     (reconnects c.self.invariant c.self.inside.subs.window c.args.s c.args.cursor c.args.link
-    c.next_ticket-ticket.result c.reconnect.new.self (rw (← c.self.view_is) at c.requires.may)
-    (rw (← c.self.view_is) at c.next_ticket-ticket.ensures) c.reconnect.ensures).1
+    c.next_rank-rank.result c.reconnect.new.self (rw (← c.self.view_is) at c.requires.may)
+    (rw (← c.self.view_is) at c.next_rank-rank.ensures) c.reconnect.ensures).1

@@ -1,7 +1,7 @@
 use Rattle.std.proofs.Common.{◌≡◌, ◌∙◌, ap, sym, refl, Some, None, option_map, arith, if◌then◌else◌}
 use Rattle.std.proofs.lemmas.Bool.{lt-leb}
 use Rattle.std.proofs.lemmas.Option.{slice_get_within}
-use Rattle.rb_deliveries.specs.declared.ticket.Held.{Held}
+use Rattle.rb_deliveries.specs.declared.rank.Held.{Held}
 use Rattle.rb_deliveries.specs.Subs.{span_to_deliver}
 use Rattle.rb_deliveries.proofs.orders.WaitingLaws.{first_there, line_delivers, none_in_line}
 use Rattle.rb_deliveries.proofs.kept.Subs.first_to_deliver.Goals as goal
@@ -17,7 +17,7 @@ returns-then-front-winner c =
     let w = c.in_ok-winner.winner in
     let none = none_in_line c.args.front c.args.batch c.self.invariant (rw (← c.self.view_is) at c.requires.belong)
     c.requires.limits.0 (Some w) (sym c.in_ok-winner.was ∙ c.winner.ensures)
-    (ap (λ t. if t then Some w else None) (lt-leb w.ticket.front c.args.front c.if-front-winner.true)) in
+    (ap (λ t. if t then Some w else None) (lt-leb w.rank.front c.args.front c.if-front-winner.true)) in
     rw (← c.self.view_is) (sym (ap (option_map span_to_deliver) none))
 
 pub index-requires : goal.index-requires

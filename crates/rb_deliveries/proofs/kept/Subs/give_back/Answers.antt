@@ -9,8 +9,8 @@ invariant_of-self c =
 
 pub returns : goal.returns
 returns c sub found =
-    let made : c.give_back.new.self ≡ returned_sub sub c.args.first c.args.ticket =
+    let made : c.give_back.new.self ≡ returned_sub sub c.args.first c.args.rank =
     changed_as c.self.inside.subs.items c.args.s c.index_mut.result.now sub
-    (λ sub. returned_sub sub c.args.first c.args.ticket) c.index_mut.ensures.value
+    (λ sub. returned_sub sub c.args.first c.args.rank) c.index_mut.ensures.value
     (rw (← c.self.view_is) at found) c.give_back.ensures in
     rw (← c.self.view_is, made) refl

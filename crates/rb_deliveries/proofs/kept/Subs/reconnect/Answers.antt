@@ -9,8 +9,8 @@ invariant_of-self c =
 
 pub returns : goal.returns
 returns c sub found =
-    let made : c.reconnect.new.self ≡ reconnected_sub sub c.args.cursor c.args.link c.args.ticket =
+    let made : c.reconnect.new.self ≡ reconnected_sub sub c.args.cursor c.args.link c.args.rank =
     changed_as c.self.inside.subs.items c.args.s c.index_mut.result.now sub
-    (λ sub. reconnected_sub sub c.args.cursor c.args.link c.args.ticket) c.index_mut.ensures.value
+    (λ sub. reconnected_sub sub c.args.cursor c.args.link c.args.rank) c.index_mut.ensures.value
     (rw (← c.self.view_is) at found) c.reconnect.ensures in
     rw (← c.self.view_is, made) refl

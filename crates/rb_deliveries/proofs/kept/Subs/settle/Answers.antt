@@ -1,6 +1,6 @@
 use Rattle.std.proofs.Common.{◌≡◌, refl, ◌∙◌, ap}
 use Rattle.rb_deliveries.specs.declared.sub.Sub.{Sub}
-use Rattle.rb_deliveries.specs.Lanes.{lane_floor, settled_lane}
+use Rattle.rb_deliveries.specs.Queues.{queue_floor, settled_queue}
 use Rattle.rb_deliveries.specs.Subs.{settled_sub}
 use Rattle.rb_deliveries.proofs.orders.DueLaws.{changed_as, waiting_as}
 use Rattle.rb_deliveries.proofs.orders.Line.{read_there}
@@ -20,6 +20,6 @@ returns-clause-kept c sub found =
 pub returns-clause-floor : goal.returns-clause-floor
 returns-clause-floor c sub found =
     c.settle-floor.ensures.floor
-    ∙ ap (λ (sub : Sub). lane_floor (settled_lane sub.lane c.args.first))
+    ∙ ap (λ (sub : Sub). queue_floor (settled_queue sub.queue c.args.first))
     (read_there c.self.inside.subs.items c.args.s c.index_mut.result.now sub c.index_mut.ensures.value
     (rw (← c.self.view_is) at found))

@@ -1,6 +1,6 @@
 use Rattle.std.proofs.Common.{sym, ◌∙◌}
-use Rattle.rb_deliveries.proofs.spans.LaneLaws.{joins_reach, first_held_begins}
-use Rattle.rb_deliveries.proofs.lane.Lane.floor.Goals as goal
+use Rattle.rb_deliveries.proofs.spans.QueueLaws.{joins_reach, first_held_begins}
+use Rattle.rb_deliveries.proofs.queue.Queue.floor.Goals as goal
 
 pub overflow_sub-result : goal.overflow_sub-result
 overflow_sub-result c =

@@ -5,33 +5,33 @@ ghost use Rattle.std.specs.Prelude.{◌≡◌, ◌<◌, ◌≤◌, slice_get, On
 ghost use Rattle.std.specs.List.{AllByRecursion};
 ghost use Rattle.rb_deliveries.specs.Spans.{cut_spans, first_ready, out_as, how_many_out};
 ghost use Rattle.rb_deliveries.specs.Spans.{how_many_ready};
-ghost use Rattle.rb_deliveries.specs.Lanes.{AreRising, AreLimited, HasNumbers, spans_of, lane_held};
-ghost use Rattle.rb_deliveries.specs.Lanes.{lane_spans, is_none_left, lane_floor, least, cut_lane};
-ghost use Rattle.rb_deliveries.specs.Lanes.{delivered_lane, returned_lane, settled_lane};
-ghost use Rattle.rb_deliveries.specs.Lanes.{pushed_lane};
-ghost use Rattle.rb_deliveries.specs.Opening.{IsLatest, opened_lane};
+ghost use Rattle.rb_deliveries.specs.Queues.{AreRising, AreLimited, HasNumbers, spans_of};
+ghost use Rattle.rb_deliveries.specs.Queues.{queue_held, queue_spans, is_none_left, queue_floor};
+ghost use Rattle.rb_deliveries.specs.Queues.{least, cut_queue, delivered_queue, returned_queue};
+ghost use Rattle.rb_deliveries.specs.Queues.{pushed_queue, settled_queue};
+ghost use Rattle.rb_deliveries.specs.Opening.{IsLatest, opened_queue};
 ghost use Rattle.rb_deliveries.specs.Taken.{GoesLast};
-ghost use Rattle.rb_deliveries.specs.Waiting.{earliest, lane_ticket};
+ghost use Rattle.rb_deliveries.specs.Waiting.{earliest, queue_rank};
 
+use crate::rank::{Held, Rank, sooner};
 use crate::span::{Span, Status};
 use crate::taken::Taken;
-use crate::ticket::{Held, Ticket, sooner};
 use std::alloc::{AllocError, Global};
 use std::marker::Model;
 
 /// What is stored of a subscription's spans. Contracts see the spans that were taken before, where
-/// the others begin, and the ticket of their cutting.
+/// the others begin, and the rank of their cutting.
 #[derive(Debug, Drop)]
-pub(crate) struct Lane {
+pub(crate) struct Queue {
     held: Taken,
     next: u64,
-    cutting: Ticket,
+    cutting: Rank,
 }
 
-impl Model for Lane {
-    ghost use Rattle.rb_deliveries.specs.Lanes.{Lane, HeldRise};
+impl Model for Queue {
+    ghost use Rattle.rb_deliveries.specs.Queues.{Queue, HeldRise};
 
-    ghost Value = { Lane };
+    ghost Value = { Queue };
 
     ghost view = { λ l. record {
       held = l.held;
@@ -42,16 +42,16 @@ impl Model for Lane {
     ghost invariant = { λ l. HeldRise 1 l.held l.next };
 }
 
-impl Lane {
+impl Queue {
     ghost use Rattle.rb_deliveries.specs.Subs.{AreGiven, ComesLast, IsDrawn};
-    ghost use Rattle.rb_deliveries.specs.Expiry.{due_held, expired_lane};
+    ghost use Rattle.rb_deliveries.specs.Expiry.{due_held, expired_queue};
 
-    /// The lane of a subscription that begins, or continues, after this number.
-    pub(crate) fn behind(cursor: u64, cutting: Ticket) -> Lane
+    /// The queue of a subscription that begins, or continues, after this number.
+    pub(crate) fn after(cursor: u64, cutting: Rank) -> Queue
         requires { cursor < 18446744073709551615 }
-        ensures { result ≡ cut_lane cursor cutting }
+        ensures { result ≡ cut_queue cursor cutting }
     {
-        Lane {
+        Queue {
             held: Taken::new(),
             next: cursor + 1,
             cutting,
@@ -60,7 +60,7 @@ impl Lane {
 
     /// The number up to which everything is settled.
     pub(crate) fn floor(&self) -> u64
-        ensures { result ≡ lane_floor self.now }
+        ensures { result ≡ queue_floor self.now }
     {
         match self.held.first() {
             Some(span) => span.first - 1,
@@ -78,7 +78,7 @@ impl Lane {
     /// How many spans are ready.
     pub(crate) fn ready(&self, batch: u64, front: u64) -> u64
         requires { AreLimited batch front }
-        ensures { result ≡ how_many_ready (lane_spans batch front self.now) }
+        ensures { result ≡ how_many_ready (queue_spans batch front self.now) }
     {
         let fresh = (front + 1).saturating_sub(self.next);
         self.held.ready() + fresh.div_ceil(batch)
@@ -94,7 +94,7 @@ impl Lane {
     /// The ready span with the lowest numbers.
     pub(crate) fn first_ready(&self, batch: u64, front: u64) -> Option<Span>
         requires { AreLimited batch front }
-        ensures { result ≡ first_ready (lane_spans batch front self.now) }
+        ensures { result ≡ first_ready (queue_spans batch front self.now) }
     {
         match self.held.first_ready() {
             Some(span) => Some(span),
@@ -117,28 +117,28 @@ impl Lane {
         })
     }
 
-    /// The ready span that is first in line, with its ticket.
+    /// The ready span that is first in line, with its rank.
     pub(crate) fn first_in_line(&self, batch: u64, front: u64) -> Option<Held>
         requires { AreLimited batch front }
-        ensures { result ≡ least (lane_held batch front self.now) }
+        ensures { result ≡ least (queue_held batch front self.now) }
     {
         let fresh = self.cutting.given_to(self.first_fresh(batch, front));
         sooner(self.held.first_in_line(), fresh)
     }
 
-    /// The ticket of the span that is first in line, or would be once the next number is placed.
-    pub(crate) fn ticket(&self) -> Ticket
-        ensures { result ≡ lane_ticket self.now }
+    /// The rank of the span that is first in line, or would be once the next number is placed.
+    pub(crate) fn rank(&self) -> Rank
+        ensures { result ≡ queue_rank self.now }
     {
         let fresh = self.cutting.of_span(self.next);
         match self.held.first_in_line() {
-            Some(held) if !fresh.is_before(held.ticket) => held.ticket,
+            Some(held) if !fresh.is_before(held.rank) => held.rank,
             _ => fresh,
         }
     }
 
     /// The earliest moment at which a span in flight was taken.
-    pub(crate) fn earliest(&self) -> Option<Ticket>
+    pub(crate) fn earliest(&self) -> Option<Rank>
         ensures value { result ≡ earliest self.now.held }
         ensures rising { AreRising self.now }
     {
@@ -162,7 +162,7 @@ impl Lane {
     ) -> Result<(), AllocError>
         requires span { HasNumbers span }
         requires last { GoesLast status self.old.held }
-        ensures ok { OnOk result (self.new ≡ delivered_lane self.old span status) }
+        ensures ok { OnOk result (self.new ≡ delivered_queue self.old span status) }
         ensures err { OnErr result (self.new ≡ self.old) }
         ensures memory { OnErr result (span.first ≡ self.old.next) }
     {
@@ -178,32 +178,32 @@ impl Lane {
         requires span { HasNumbers span }
         requires first { span.first ≡ self.old.next }
         requires last { GoesLast status self.old.held }
-        ensures ok { OnOk result (self.new ≡ pushed_lane self.old span status) }
+        ensures ok { OnOk result (self.new ≡ pushed_queue self.old span status) }
         ensures err { OnErr result (self.new ≡ self.old) }
     {
         let held = Held {
             span: Span { status, ..span },
-            ticket: self.cutting,
+            rank: self.cutting,
         };
         self.held.push(alloc, held)?;
         self.next = span.last + 1;
         Ok(())
     }
 
-    /// Makes a span ready again, in line with this ticket, which comes after all others.
-    pub(crate) fn give_back(&mut self, first: u64, ticket: Ticket)
-        requires { ComesLast ticket self.old.held }
-        ensures { self.new ≡ returned_lane self.old first ticket }
+    /// Makes a span ready again, in line with this rank, which comes after all others.
+    pub(crate) fn give_back(&mut self, first: u64, rank: Rank)
+        requires { ComesLast rank self.old.held }
+        ensures { self.new ≡ returned_queue self.old first rank }
     {
         let status = Status::Ready { taken: true };
-        self.held.restate(first, status, ticket);
+        self.held.restate(first, status, rank);
     }
 
-    /// Opens a span: each of its numbers is a ready span of its own. Their tickets come after
+    /// Opens a span: each of its numbers is a ready span of its own. Their ranks come after
     /// `latest`. An `Err` changes nothing.
-    pub(crate) fn open(&mut self, first: u64, latest: Ticket) -> Result<(), AllocError>
+    pub(crate) fn open(&mut self, first: u64, latest: Rank) -> Result<(), AllocError>
         requires { IsLatest latest self.old }
-        ensures ok { OnOk result (self.new ≡ opened_lane self.old first latest) }
+        ensures ok { OnOk result (self.new ≡ opened_queue self.old first latest) }
         ensures err { OnErr result (self.new ≡ self.old) }
     {
         self.held.open(first, latest)
@@ -211,7 +211,7 @@ impl Lane {
 
     /// Settles a span: it is removed.
     pub(crate) fn settle(&mut self, first: u64)
-        ensures { self.new ≡ settled_lane self.old first }
+        ensures { self.new ≡ settled_queue self.old first }
     {
         self.held.remove(first);
     }
@@ -223,22 +223,22 @@ impl Lane {
         self.held.how_many_due(timeout, clock)
     }
 
-    /// Makes the spans that are due ready again. Their tickets come after `latest`, in the order of
+    /// Makes the spans that are due ready again. Their ranks come after `latest`, in the order of
     /// their deliveries' numbers, which are below `next`.
-    pub(crate) fn expire(&mut self, timeout: u64, clock: u64, latest: Ticket, next: u64)
+    pub(crate) fn expire(&mut self, timeout: u64, clock: u64, latest: Rank, next: u64)
         requires given { AreGiven next latest.turn self.old.held }
-        requires drawn { AllByRecursion (λ h. IsDrawn latest.front latest.turn h.ticket)
+        requires drawn { AllByRecursion (λ h. IsDrawn latest.front latest.turn h.rank)
             self.old.held }
-        ensures { self.new ≡ expired_lane timeout clock latest self.old }
+        ensures { self.new ≡ expired_queue timeout clock latest self.old }
     {
         self.held.expire(timeout, clock, latest, next);
     }
 
     /// Continues after this number: removes all spans. The numbers after it are cut with this
-    /// ticket.
-    pub(crate) fn restart(&mut self, cursor: u64, cutting: Ticket)
+    /// rank.
+    pub(crate) fn restart(&mut self, cursor: u64, cutting: Rank)
         requires { cursor < 18446744073709551615 }
-        ensures { self.new ≡ cut_lane cursor cutting }
+        ensures { self.new ≡ cut_queue cursor cutting }
     {
         self.held.clear();
         self.next = cursor + 1;
@@ -247,7 +247,7 @@ impl Lane {
 
     /// Removes all spans; the floor stays.
     pub(crate) fn clear(&mut self)
-        ensures { self.new ≡ cut_lane (lane_floor self.old) self.old.cutting }
+        ensures { self.new ≡ cut_queue (queue_floor self.old) self.old.cutting }
     {
         let floor = self.floor();
         self.held.clear();

@@ -1,6 +1,6 @@
 use Rattle.std.proofs.Common.{◌≡◌, min, slice_get, sym, ap, ◌∙◌, arith}
 use Rattle.rb_deliveries.proofs.spans.CutLaws.{cut_none, cut_some, cut_ends}
-use Rattle.rb_deliveries.proofs.lane.Lane.first_fresh.Goals as goal
+use Rattle.rb_deliveries.proofs.queue.Queue.first_fresh.Goals as goal
 
 pub returns-then-front-self : goal.returns-then-front-self
 returns-then-front-self c =

@@ -1,7 +1,7 @@
 use Rattle.std.proofs.Common.{arith}
 use Rattle.rb_deliveries.proofs.lists.RestateLaws.{out_stands_last}
-use Rattle.rb_deliveries.proofs.spans.LaneLaws.{count_rising, joins_restated}
-use Rattle.rb_deliveries.proofs.lane.Lane.deliver.Goals as goal
+use Rattle.rb_deliveries.proofs.spans.QueueLaws.{count_rising, joins_restated}
+use Rattle.rb_deliveries.proofs.queue.Queue.deliver.Goals as goal
 
 pub restate-requires-clause-few : goal.restate-requires-clause-few
 restate-requires-clause-few c = omega (arith, count_rising _ _ _ c.self.invariant, c.self.ranges)

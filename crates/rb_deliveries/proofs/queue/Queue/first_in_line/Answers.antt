@@ -1,8 +1,8 @@
 use Rattle.std.proofs.Common.{◌≡◌, sym, ap, ◌∙◌, option_map, slice_get}
 use Rattle.rb_deliveries.specs.Spans.{cut_spans}
-use Rattle.rb_deliveries.specs.Lanes.{better, least, with_birth}
-use Rattle.rb_deliveries.proofs.spans.LaneLaws.{first_in_line_is}
-use Rattle.rb_deliveries.proofs.lane.Lane.first_in_line.Goals as goal
+use Rattle.rb_deliveries.specs.Queues.{better, least, with_birth}
+use Rattle.rb_deliveries.proofs.spans.QueueLaws.{first_in_line_is}
+use Rattle.rb_deliveries.proofs.queue.Queue.first_in_line.Goals as goal
 
 pub returns : goal.returns
 returns c =

@@ -1,7 +1,7 @@
 use Rattle.std.proofs.Common.{ap, arith}
-use Rattle.rb_deliveries.proofs.spans.LaneLaws.{count_rising}
+use Rattle.rb_deliveries.proofs.spans.QueueLaws.{count_rising}
 use Rattle.rb_deliveries.proofs.spans.OpenedLaws.{joins_tried, opened_turns_left}
-use Rattle.rb_deliveries.proofs.lane.Lane.open.Goals as goal
+use Rattle.rb_deliveries.proofs.queue.Queue.open.Goals as goal
 
 pub open-requires-clause-few : goal.open-requires-clause-few
 open-requires-clause-few c = omega (arith, count_rising _ _ _ c.self.invariant, c.self.ranges)

@@ -1,6 +1,6 @@
 use Rattle.std.proofs.Common.{arith}
 use Rattle.rb_deliveries.proofs.spans.ManyLaws.{ready_fits, ready_is}
-use Rattle.rb_deliveries.proofs.lane.Lane.ready.Goals as goal
+use Rattle.rb_deliveries.proofs.queue.Queue.ready.Goals as goal
 
 pub overflow_add-result : goal.overflow_add-result
 overflow_add-result c =

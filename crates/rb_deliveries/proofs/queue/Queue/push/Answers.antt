@@ -1,6 +1,6 @@
 use Rattle.std.proofs.Common.{◌∙◌, ap, sym, arith}
-use Rattle.rb_deliveries.proofs.spans.LaneLaws.{count_rising, joins_pushed}
-use Rattle.rb_deliveries.proofs.lane.Lane.push.Goals as goal
+use Rattle.rb_deliveries.proofs.spans.QueueLaws.{count_rising, joins_pushed}
+use Rattle.rb_deliveries.proofs.queue.Queue.push.Goals as goal
 
 pub push-requires-clause-few : goal.push-requires-clause-few
 push-requires-clause-few c = omega (arith, count_rising _ _ _ c.self.invariant, c.self.ranges)

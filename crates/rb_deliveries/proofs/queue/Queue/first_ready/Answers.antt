@@ -1,8 +1,8 @@
 use Rattle.std.proofs.Common.{◌≡◌, Some, None, sym, ap, ◌∙◌}
 use Rattle.rb_deliveries.specs.Spans.{first_ready}
-use Rattle.rb_deliveries.specs.Lanes.{spans_of}
-use Rattle.rb_deliveries.proofs.spans.LaneLaws.{first_ready_some, first_ready_none}
-use Rattle.rb_deliveries.proofs.lane.Lane.first_ready.Goals as goal
+use Rattle.rb_deliveries.specs.Queues.{spans_of}
+use Rattle.rb_deliveries.proofs.spans.QueueLaws.{first_ready_some, first_ready_none}
+use Rattle.rb_deliveries.proofs.queue.Queue.first_ready.Goals as goal
 
 pub returns-in-Some : goal.returns-in-Some
 returns-in-Some c =
